@@ -9,7 +9,30 @@ use refusal::Refusal;
 
 // The lengths of the months: twelve of a plain year, then twelve of a leap year.
 const MONTH_LENGTHS: [u8; 24] = [
-    31, 28, 31, 30, 31, 30, 31, 31, 30, 31, 30, 31, 31, 29, 31, 30, 31, 30, 31, 31, 30, 31, 30, 31,
+    31,
+    28,
+    31,
+    30,
+    31,
+    30,
+    31,
+    31,
+    30,
+    31,
+    30,
+    31,
+    31,
+    29,
+    31,
+    30,
+    31,
+    30,
+    31,
+    31,
+    30,
+    31,
+    30,
+    31,
 ];
 
 // A calendar day of 1983 to 2155.

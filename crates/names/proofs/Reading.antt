@@ -32,11 +32,12 @@ passed-more xs i n (b ∷ rest) e h ne p =
     let head : b ≡ getD xs i 0 = ap (λ l. getD l 0 0) (p .0 ∙ cut) in
     let tail : rest ≡ drop (i + 1) xs = ap (λ l. drop 1 l) (p .0 ∙ cut) in
     let grown : take (i + 1) xs ≡ take i xs ++ b ∷ [] = take-more xs i 0 inside ∙ ap (λ x. take i xs ++ x ∷ []) (sym head) in
-    rw whole
-    ( tail
-    , omega (arith, p .1)
-    , ap (λ l. l ++ characters rest) grown ∙ append-assoc (take i xs) (b ∷ []) (characters rest)
-      ∙ ap (λ l. take i xs ++ l) (sym (characters-more b rest ne)) ∙ p .2)
+    rw whole (
+      tail,
+      omega (arith, p .1),
+      ap (λ l. l ++ characters rest) grown ∙ append-assoc (take i xs) (b ∷ []) (characters rest)
+          ∙ ap (λ l. take i xs ++ l) (sym (characters-more b rest ne)) ∙ p .2,
+    )
 
 -- reading ends where nothing is left, or at an ETX
 pub passed-all : (xs : List ℕ) (i n : ℕ) (left : List ℕ) → n ≡ i → characters left ≡ [] → Passed xs i left → take n xs ≡ characters xs

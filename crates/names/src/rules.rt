@@ -14,7 +14,9 @@ pub const FIELD: usize = 12;
 
 // The names of the entries that are no files, which no file may have.
 const BOOT: &[u8] = b"BOOT";
+
 const DIRECTORY: &[u8] = b"DIRECTORY";
+
 const BLOCKS_LEFT: &[u8] = b"BLOCKS LEFT";
 
 fn is_printable(byte: u8) -> bool

@@ -8,5 +8,6 @@ pub returns : need.returns
 returns c =
     table-days (c .args .year) (c .if-is-leap .kind) (c .args .month) (c .pre .0) (c .pre .1)
     (elim (c .if-is-leap .came) [
-          then-is-leap w ↦ w .kind-is ∙ sym (ap (λ t. cond t 1 0) (sym (c .is-leap .ensures) ∙ w .if-is-leap .taken))
-        | else-is-leap w ↦ w .kind-is ∙ sym (ap (λ t. cond t 1 0) (sym (c .is-leap .ensures) ∙ w .if-is-leap .left)) ])
+      | then-is-leap w ↦ w .kind-is ∙ sym (ap (λ t. cond t 1 0) (sym (c .is-leap .ensures) ∙ w .if-is-leap .taken))
+      | else-is-leap w ↦ w .kind-is ∙ sym (ap (λ t. cond t 1 0) (sym (c .is-leap .ensures) ∙ w .if-is-leap .left))
+    ])

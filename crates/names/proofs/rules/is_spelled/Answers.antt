@@ -23,9 +23,10 @@ returns-then-not-is-letter c =
 letter-there : (c : need.Joined-else-typed) → c .loop-index .index + 1 ≡ length (c .args .name .now) → c .args .typed ≡ true
     → isLetter (getD (c .args .name .now) (c .loop-index .index) 0) ≡ true
 letter-there c last typed = elim (c .else-typed .came) [
-      else-typed·by·then-typed·then-index-name·else-not-is-letter w ↦ sym (w .if-not-is-letter .ensures tt)
-    | else-typed·by·then-typed·else-index-name w ↦ absurd (w .if-index-name .left last)
-    | else-typed·by·else-typed w ↦ absurd (both-ways (c .args .typed) (w .if-typed .left) typed) ]
+  | else-typed·by·then-typed·then-index-name·else-not-is-letter w ↦ sym (w .if-not-is-letter .ensures tt)
+  | else-typed·by·then-typed·else-index-name w ↦ absurd (w .if-index-name .left last)
+  | else-typed·by·else-typed w ↦ absurd (both-ways (c .args .typed) (w .if-typed .left) typed)
+]
 
 pub loop-index-again : need.loop-index-again
 loop-index-again c =

@@ -1,0 +1,4 @@
+pub mod Counting
+pub mod Finding
+pub mod Pieces
+pub mod Walking

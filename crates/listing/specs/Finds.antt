@@ -1,0 +1,57 @@
+-- Finding a live file of an image by its name. Assumes nothing.
+--   byWhole, byStem   the first live file that a name fits, taken as a whole name or as a stem
+--   lookedUp          the file by its whole name or, where none fits, by its stem; or why there is none
+--   foundText         what the find command prints
+use mathlib.Core.Bool.{Bool, not, _&&_, _||_, cond}
+use mathlib.Core.List.{List, _++_}
+use Prim.Native.Nat.{ℕ, _-_}
+use lib.Chars.{codes}
+use Rattle.std.specs.declared.option.Option.{Option}
+use Rattle.std.specs.declared.option.Option.the-variants.{Some, None}
+use Rattle.std.specs.declared.result.Result.{Result}
+use Rattle.std.specs.declared.result.Result.the-variants.{Ok, Err}
+use Rattle.refusal.specs.declared.Refusal.{Refusal}
+use Rattle.refusal.specs.declared.Refusal.the-variants.{BadName, NoSuchFile}
+use Rattle.names.specs.Names.{fitsStem, fitsWhole, isStem, isWhole}
+use Rattle.entry.specs.Fields.{nameOf}
+use Rattle.lines.specs.Rows.{rowText}
+use Rattle.listing.specs.Walks.{firstThat, imageEntry, isDeleted, walked}
+use Rattle.listing.specs.declared.finds.Fit.{Fit}
+use Rattle.listing.specs.declared.finds.Fit.the-variants.{Whole, Stem}
+use Rattle.listing.specs.declared.finds.Match.{Match}
+use Rattle.listing.specs.declared.walk.Found.{Found}
+
+abbrev pub liveWhole : List ℕ → List ℕ → Bool
+liveWhole name bytes = not (isDeleted bytes) && fitsWhole name (nameOf bytes)
+
+abbrev pub liveStem : List ℕ → List ℕ → Bool
+liveStem stem bytes = not (isDeleted bytes) && fitsStem stem (nameOf bytes)
+
+abbrev pub byWhole : List ℕ → ℕ → List ℕ → Option ℕ
+byWhole image left given = cond (isWhole given) (firstThat (liveWhole given) image 3 (left - 3)) None
+
+abbrev pub byStem : List ℕ → ℕ → List ℕ → Option ℕ
+byStem image left given = cond (isStem given) (firstThat (liveStem given) image 3 (left - 3)) None
+
+abbrev pub wholeFirst : Option ℕ → Option ℕ → Result Match Refusal
+wholeFirst (Some e) stem = Ok (record { number = e; fit = Whole })
+wholeFirst None (Some e) = Ok (record { number = e; fit = Stem })
+wholeFirst None None = Err NoSuchFile
+
+abbrev pub lookedUp : List ℕ → ℕ → List ℕ → Result Match Refusal
+lookedUp image left given = cond (isWhole given || isStem given) (wholeFirst (byWhole image left given) (byStem image left given)) (Err BadName)
+
+abbrev pub fitText : Fit → List ℕ
+fitText Whole = codes "Found by its whole name."
+fitText Stem = codes "Found by its stem; no live file has that whole name."
+
+abbrev pub matchText : List ℕ → Result Match Refusal → Result (List ℕ) Refusal
+matchText image (Ok m) = Ok (rowText (m .number) (imageEntry image (m .number)) ++ (codes "\n" ++ (fitText (m .fit) ++ codes "\n")))
+matchText image (Err refusal) = Err refusal
+
+abbrev pub found : List ℕ → List ℕ → Result Found Refusal → Result (List ℕ) Refusal
+found image given (Ok walk) = matchText image (lookedUp image (walk .left) given)
+found image given (Err refusal) = Err refusal
+
+abbrev pub foundText : List ℕ → List ℕ → Result (List ℕ) Refusal
+foundText image given = found image given (walked image)

@@ -1,0 +1,4 @@
+pub mod Answered
+pub mod Catalogues
+pub mod Finds
+pub mod Walks

@@ -1,0 +1,80 @@
+-- The walk through the directory of an image, read from its bytes. Assumes nothing.
+--   imageEntry   the 26 bytes of an entry of the directory
+--   firstThat    the first entry of some that passes a test
+--   walked       the directory blocks of an image and the number of its BLOCKS LEFT entry, or why it cannot be walked
+use mathlib.Core.Bool.{Bool, true, false, not, _&&_, cond}
+use mathlib.Core.List.{List}
+use Prim.Native.Nat.{ℕ, zero, suc, _+_, _-_, _*_, _/_, _%_, _<_, _≤_}
+use lib.Dec.{eqb, leb}
+use lib.ListN.{length}
+use Rattle.std.specs.Options.{isSome}
+use Rattle.std.specs.declared.option.Option.{Option}
+use Rattle.std.specs.declared.option.Option.the-variants.{Some, None}
+use Rattle.std.specs.declared.result.Result.{Result}
+use Rattle.std.specs.declared.result.Result.the-variants.{Ok, Err}
+use Rattle.std.specs.shelf.Text.{sameBytes}
+use Rattle.refusal.specs.declared.Refusal.{Refusal}
+use Rattle.refusal.specs.declared.Refusal.the-variants.{OutOfRange, BrokenLayout}
+use Rattle.entry.specs.Fields.{attributesOf, bit, checkBytes, checkOf, directoryOf, lastOf, part, sizeOf, usedOf}
+use Rattle.entry.specs.Lengths.{lengthOf}
+use Rattle.listing.specs.declared.walk.Found.{Found}
+
+-- A block of an image.
+abbrev pub block : List ℕ → ℕ → List ℕ
+block image b = part (1024 * b) 1024 image
+
+-- Entry e is the (e mod 39)th of block 1 + e ÷ 39.
+abbrev pub imageEntry : List ℕ → ℕ → List ℕ
+imageEntry image e = part (26 * (e % 39)) 26 (block image (1 + e / 39))
+
+-- The first of `count` entries from e on that passes the test.
+abbrev pub firstThat : (List ℕ → Bool) → List ℕ → ℕ → ℕ → Option ℕ
+firstThat test image e zero = None
+firstThat test image e (suc count) = cond (test (imageEntry image e)) (Some e) (firstThat test image (e + 1) count)
+
+-- The blocks of an image: 1 to 65,535 of them, of 1,024 bytes each.
+abbrev pub isImage : List ℕ → Bool
+isImage image = eqb (length image % 1024) 0 && (leb 1 (length image / 1024) && leb (length image / 1024) 65535)
+
+-- The volume's entry: it has the check bytes, there is a directory block, and the volume has a block more than the
+-- directory and no more than the image. (An image of one block has no directory, so its entry does not hold.)
+abbrev pub volumeHolds : ℕ → List ℕ → Bool
+volumeHolds blocks bytes =
+    leb 2 blocks && (sameBytes (checkOf bytes) checkBytes
+    && (leb 1 (directoryOf bytes) && (leb (directoryOf bytes + 1) (sizeOf bytes) && leb (sizeOf bytes) blocks)))
+
+abbrev pub isLeft : List ℕ → Bool
+isLeft bytes = bit 0 (attributesOf bytes)
+
+abbrev pub isDeleted : List ℕ → Bool
+isDeleted bytes = bit 2 (attributesOf bytes)
+
+-- A live file whose used and last are no pair that a length has.
+abbrev pub isUnreadable : List ℕ → Bool
+isUnreadable bytes = not (isDeleted bytes) && not (isSome (lengthOf (usedOf bytes) (lastOf bytes)))
+
+-- The image holds the blocks that were found, and the BLOCKS LEFT entry stands in them, behind the first three.
+pub record Covers (found : Found) (image : List ℕ) : Type 0 where
+  pub blocks : 1024 * (1 + found .directory) ≤ length image
+  pub few : found .directory < 128
+  pub from : 3 ≤ found .left
+  pub to : found .left < 39 * found .directory
+
+-- Every live file before the BLOCKS LEFT entry has a length, or the first that has none is at fault.
+abbrev pub filesWalked : ℕ → ℕ → Option ℕ → Result Found Refusal
+filesWalked directory left None = Ok (record { directory = directory; left = left })
+filesWalked directory left (Some e) = Err (BrokenLayout e)
+
+-- There is a BLOCKS LEFT entry, or the end of the directory is at fault.
+abbrev pub leftWalked : List ℕ → ℕ → Option ℕ → Result Found Refusal
+leftWalked image directory None = Err (BrokenLayout (39 * directory))
+leftWalked image directory (Some left) = filesWalked directory left (firstThat isUnreadable image 3 (left - 3))
+
+abbrev pub directoryWalked : List ℕ → ℕ → Result Found Refusal
+directoryWalked image directory = leftWalked image directory (firstThat isLeft image 3 (39 * directory - 3))
+
+abbrev pub walked : List ℕ → Result Found Refusal
+walked image =
+    cond (isImage image)
+    (cond (volumeHolds (length image / 1024) (imageEntry image 0)) (directoryWalked image (directoryOf (imageEntry image 0))) (Err (BrokenLayout 0)))
+    (Err OutOfRange)

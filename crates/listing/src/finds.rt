@@ -1,0 +1,132 @@
+// Finding a live file of an image by its whole name or by its stem.
+ghost use mathlib.Core.Path.{_≡_};
+ghost use Prim.Native.Nat.{_+_, _-_, _*_, _/_, _<_, _≤_};
+ghost use lib.ListN.{length};
+ghost use Rattle.listing.specs.Answered.{Answers};
+ghost use Rattle.listing.specs.Finds.{byStem, byWhole, fitText, foundText, liveStem, liveWhole, lookedUp};
+ghost use Rattle.std.specs.Options.{Cases};
+ghost use Rattle.std.specs.Vec.{made};
+use crate::failure::Failure;
+use crate::failure::FailureFromAlloc;
+use crate::failure::FailureFromRefusal;
+use crate::walk::Test;
+use crate::walk::entry_at;
+use crate::walk::first;
+use crate::walk::walk;
+use entry::Attribute;
+use entry::Entry;
+use lines::row;
+use names::Stem;
+use names::WholeName;
+use refusal::Refusal;
+use std::alloc::Global;
+
+// A live file of that whole name.
+#[derive(Clone, Copy)]
+struct LiveWhole {
+    name: WholeName,
+}
+
+impl Test for LiveWhole as LiveWholeTest {
+    ghost passes = { λ key. liveWhole (key .name .field) };
+
+    fn test(&self, entry: &Entry) -> bool {
+        !entry.attributes().has(Attribute::Deleted) && self.name.fits(entry.name_field())
+    }
+}
+
+// A live file of that stem.
+#[derive(Clone, Copy)]
+struct LiveStem {
+    stem: Stem,
+}
+
+impl Test for LiveStem as LiveStemTest {
+    ghost passes = { λ key. liveStem (key .stem .field) };
+
+    fn test(&self, entry: &Entry) -> bool {
+        !entry.attributes().has(Attribute::Deleted) && self.stem.fits(entry.name_field())
+    }
+}
+
+// By what a file was found.
+#[derive(Clone, Copy, PartialEq, Eq, Debug)]
+pub enum Fit {
+    Whole,
+    Stem,
+}
+
+// The entry that was found, and by what.
+#[derive(Clone, Copy, PartialEq, Eq, Debug)]
+pub struct Match {
+    pub number: u32,
+    pub fit: Fit,
+}
+
+// The first live file before entry `left` that the name fits as a whole name.
+fn by_whole(image: &[u8], left: u32, given: &[u8]) -> Option<u32>
+    requires { ⌜ 1024 * (2 + (left - 1) / 39) ≤ length (now image) ⌝ }
+    ensures value { λ r. ⌜ r ≡ byWhole (now (image .entry)) left (now (given .entry)) ⌝ }
+    ensures before { λ r. ⌜ Cases r (Unit {0}) (λ e. e < left) ⌝ }
+{
+    let Ok(name) = WholeName::new(given) else {
+        return None;
+    };
+    first(image, &LiveWhole { name }, 3, left)
+}
+
+// The first live file before entry `left` that the name fits as a stem.
+fn by_stem(image: &[u8], left: u32, given: &[u8]) -> Option<u32>
+    requires { ⌜ 1024 * (2 + (left - 1) / 39) ≤ length (now image) ⌝ }
+    ensures value { λ r. ⌜ r ≡ byStem (now (image .entry)) left (now (given .entry)) ⌝ }
+    ensures before { λ r. ⌜ Cases r (Unit {0}) (λ e. e < left) ⌝ }
+{
+    let Ok(stem) = Stem::new(given) else {
+        return None;
+    };
+    first(image, &LiveStem { stem }, 3, left)
+}
+
+// The file by its whole name or, where none fits, by its stem: the name without its type letter.
+fn look_up(image: &[u8], left: u32, given: &[u8]) -> Result<Match, Refusal>
+    requires { ⌜ 1024 * (2 + (left - 1) / 39) ≤ length (now image) ⌝ }
+    ensures value { λ r. ⌜ r ≡ lookedUp (now (image .entry)) left (now (given .entry)) ⌝ }
+    ensures before { λ r. ⌜ made r (λ m. m .number < left) ⌝ }
+{
+    if WholeName::new(given).is_err() && Stem::new(given).is_err() {
+        return Err(Refusal::BadName);
+    }
+    if let Some(number) = by_whole(image, left, given) {
+        return Ok(Match {
+            number,
+            fit: Fit::Whole,
+        });
+    }
+    let Some(number) = by_stem(image, left, given) else {
+        return Err(Refusal::NoSuchFile);
+    };
+    Ok(Match {
+        number,
+        fit: Fit::Stem,
+    })
+}
+
+fn fit_text(fit: Fit) -> &'static str
+    ensures { λ r. ⌜ now r ≡ fitText fit ⌝ }
+{
+    match fit {
+        Fit::Whole => "Found by its whole name.",
+        Fit::Stem => "Found by its stem; no live file has that whole name.",
+    }
+}
+
+// The line of the file that a name finds, and by what it was found.
+pub fn find(heap: Global, image: &[u8], given: &[u8]) -> Result<String, Failure>
+    ensures { λ r. ⌜ Answers r (foundText (now (image .entry)) (now (given .entry))) ⌝ }
+{
+    let found = walk(image)?;
+    let hit = look_up(image, found.left, given)?;
+    let line = row(heap, hit.number, &entry_at(image, hit.number))?;
+    let fit = fit_text(hit.fit);
+    Ok(format!(heap, "{line}\n{fit}\n")?)
+}

@@ -1,0 +1,13 @@
+// What the program's commands print of an image.
+mod catalogues;
+mod failure;
+mod finds;
+mod walk;
+
+pub use catalogues::catalogue;
+pub use failure::Failure;
+pub use failure::FailureDebug;
+pub use failure::FailureFromAlloc;
+pub use failure::FailureFromRefusal;
+pub use failure::FailurePartialEq;
+pub use finds::find;
