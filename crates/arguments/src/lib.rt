@@ -3,6 +3,8 @@ mod commands;
 
 pub use commands::Command;
 pub use commands::Misuse;
+pub use commands::MisuseDebug;
+pub use commands::MisusePartialEq;
 pub use commands::USAGE;
 pub use commands::complaint;
 pub use commands::read_arguments;

@@ -61,7 +61,7 @@ fn spaces(heap: Global, count: usize) -> Result<String, AllocError>
 }
 
 // A text in a column of that width, at its left edge.
-pub fn left(heap: Global, width: usize, text: &str) -> Result<String, AllocError>
+pub(crate) fn left(heap: Global, width: usize, text: &str) -> Result<String, AllocError>
     ensures { λ r. ⌜ made r (λ t. string-bytes t ≡ leftOf width (now (text .entry))) ⌝ }
 {
     let rest = spaces(heap, width.saturating_sub(text.len()))?;
@@ -69,7 +69,7 @@ pub fn left(heap: Global, width: usize, text: &str) -> Result<String, AllocError
 }
 
 // A text in a column of that width, at its right edge.
-pub fn right(heap: Global, width: usize, text: &str) -> Result<String, AllocError>
+pub(crate) fn right(heap: Global, width: usize, text: &str) -> Result<String, AllocError>
     ensures { λ r. ⌜ made r (λ t. string-bytes t ≡ rightOf width (now (text .entry))) ⌝ }
 {
     let rest = spaces(heap, width.saturating_sub(text.len()))?;
@@ -84,7 +84,7 @@ fn leading_zero(n: u8) -> &'static str
 }
 
 // A number in at least two digits.
-pub fn two(heap: Global, n: u8) -> Result<String, AllocError>
+pub(crate) fn two(heap: Global, n: u8) -> Result<String, AllocError>
     ensures { λ r. ⌜ made r (λ t. string-bytes t ≡ twoOf n) ⌝ }
 {
     let zero = leading_zero(n);

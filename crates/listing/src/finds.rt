@@ -51,14 +51,14 @@ impl Test for LiveStem as LiveStemTest {
 
 // By what a file was found.
 #[derive(Clone, Copy, PartialEq, Eq, Debug)]
-pub enum Fit {
+pub(crate) enum Fit {
     Whole,
     Stem,
 }
 
 // The entry that was found, and by what.
 #[derive(Clone, Copy, PartialEq, Eq, Debug)]
-pub struct Match {
+pub(crate) struct Match {
     pub number: u32,
     pub fit: Fit,
 }

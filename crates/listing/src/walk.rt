@@ -15,7 +15,7 @@ use entry::Entry;
 use refusal::Refusal;
 
 // The entry of that number, in an image that holds its block.
-pub fn entry_at(image: &[u8], number: u32) -> Entry
+pub(crate) fn entry_at(image: &[u8], number: u32) -> Entry
     requires { ⌜ 1024 * (2 + number / 39) ≤ length (now image) ⌝ }
     ensures { λ r. ⌜ r .bytes ≡ imageEntry (now (image .entry)) number ⌝ }
 {
@@ -27,7 +27,7 @@ pub fn entry_at(image: &[u8], number: u32) -> Entry
 }
 
 // A test of an entry.
-pub trait Test {
+pub(crate) trait Test {
     ghost passes: { Self → List ℕ → Bool };
 
     fn test(&self, entry: &Entry) -> bool
@@ -35,7 +35,7 @@ pub trait Test {
 }
 
 // The first entry from `from` up to `to` that passes a test.
-pub fn first<T: Test>(image: &[u8], test: &T, from: u32, to: u32) -> Option<u32>
+pub(crate) fn first<T: Test>(image: &[u8], test: &T, from: u32, to: u32) -> Option<u32>
     requires { ⌜ 1024 * (2 + (to - 1) / 39) ≤ length (now image) ⌝ }
     ensures value { λ r. ⌜ r ≡ firstThat (T·Test .passes (now (test .entry))) (now (image .entry)) from (to - from) ⌝ }
     ensures between { λ r. ⌜ Cases r (Unit {0}) (λ e. (from ≤ e) × (e < to)) ⌝ }
@@ -91,7 +91,7 @@ fn volume_holds(blocks: u32, volume: &Entry) -> bool
 
 // What a walk learns of an image: its directory blocks, and the number of its BLOCKS LEFT entry.
 #[derive(Clone, Copy, PartialEq, Eq, Debug)]
-pub struct Found {
+pub(crate) struct Found {
     pub directory: u32,
     pub left: u32,
 }
@@ -117,7 +117,7 @@ fn walk_directory(image: &[u8], directory: u32) -> Result<Found, Refusal>
 }
 
 // Walks the directory of an image: it ends at the BLOCKS LEFT entry, and every live file before that has a length.
-pub fn walk(image: &[u8]) -> Result<Found, Refusal>
+pub(crate) fn walk(image: &[u8]) -> Result<Found, Refusal>
     ensures value { λ r. ⌜ r ≡ walked (now (image .entry)) ⌝ }
     ensures covers { λ r. ⌜ made r (λ found. Covers found (now (image .entry))) ⌝ }
 {

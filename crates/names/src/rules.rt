@@ -53,7 +53,7 @@ fn is_reserved(name: &[u8]) -> bool
     same(name, BOOT) || same(name, DIRECTORY) || same(name, BLOCKS_LEFT)
 }
 
-// Whether a name has printable characters, `low` to `high` of them.
+// Whether a name has `low` to `high` characters.
 fn has_length(name: &[u8], low: usize, high: usize) -> bool
     ensures { λ r. ⌜ r ≡ leb low (length (now (name .entry))) && leb (length (now (name .entry))) high ⌝ }
 {
@@ -61,7 +61,7 @@ fn has_length(name: &[u8], low: usize, high: usize) -> bool
 }
 
 // A whole name: 2 to 11 characters, the last a letter, and no reserved name.
-pub fn is_whole(given: &[u8]) -> bool
+pub(crate) fn is_whole(given: &[u8]) -> bool
     ensures { λ r. ⌜ r ≡ isWhole (now (given .entry)) ⌝ }
 {
     let name = characters(given);
@@ -69,7 +69,7 @@ pub fn is_whole(given: &[u8]) -> bool
 }
 
 // A stem: 1 to 10 characters.
-pub fn is_stem(given: &[u8]) -> bool
+pub(crate) fn is_stem(given: &[u8]) -> bool
     ensures { λ r. ⌜ r ≡ isStem (now (given .entry)) ⌝ }
 {
     let name = characters(given);
@@ -77,7 +77,7 @@ pub fn is_stem(given: &[u8]) -> bool
 }
 
 // A volume's name: 1 to 11 characters.
-pub fn is_volume(given: &[u8]) -> bool
+pub(crate) fn is_volume(given: &[u8]) -> bool
     ensures { λ r. ⌜ r ≡ isVolume (now (given .entry)) ⌝ }
 {
     let name = characters(given);
@@ -85,7 +85,7 @@ pub fn is_volume(given: &[u8]) -> bool
 }
 
 // The name field that holds a name: its characters, the ETX, then zeros.
-pub fn to_field(given: &[u8]) -> [u8; FIELD]
+pub(crate) fn to_field(given: &[u8]) -> [u8; FIELD]
     requires { ⌜ length (charactersOf (now given)) ≤ 11 ⌝ }
     ensures { λ r. ⌜ r ≡ nameField (now (given .entry)) ⌝ }
 {
