@@ -1,3 +1,2 @@
 pub mod Calendar
-pub mod Cases
 pub mod Parts

@@ -1,5 +1,6 @@
 -- The fields of an entry's 26 bytes. Assumes nothing.
 --   part, stored   what stands at a place of some bytes; bytes with others put over that place
+--   entryIn        an entry of a directory block
 --   word, long     the number in two or in four bytes, the low byte first; wordBytes and longBytes write it
 --   bit            a bit of a byte, 0 the lowest
 --   nameOf .. dateOf, checkOf, sizeOf, directoryOf   the fields of an entry, by position
@@ -11,6 +12,10 @@ use lib.ListN.{length, getD, take, drop}
 
 abbrev pub part : ℕ → ℕ → List ℕ → List ℕ
 part at count bytes = take count (drop at bytes)
+
+-- The 26 bytes of the entry of a number in the directory block that holds it: 39 entries stand in a block.
+abbrev pub entryIn : List ℕ → ℕ → List ℕ
+entryIn block number = part (26 * (number % 39)) 26 block
 
 -- Every byte before the place and behind what is put there stays.
 abbrev pub stored : List ℕ → ℕ → List ℕ → List ℕ

@@ -4,13 +4,13 @@
 --   kindOf        the kind of the entry of a number in the directory block that holds it
 use mathlib.Core.Bool.{cond}
 use mathlib.Core.List.{List}
-use Prim.Native.Nat.{ℕ, _*_, _%_}
+use Prim.Native.Nat.{ℕ}
 use lib.Dec.{eqb, leb}
 use denote.Ref.{now}
 use Rattle.std.specs.declared.option.Option.{Option}
 use Rattle.std.specs.declared.option.Option.the-variants.{Some, None}
 use Rattle.names.specs.Names.{characters}
-use Rattle.entry.specs.Fields.{attributesOf, bit, nameOf, part}
+use Rattle.entry.specs.Fields.{attributesOf, bit, entryIn, nameOf}
 use Rattle.entry.specs.declared.kind.Kind.{Kind}
 use Rattle.entry.specs.declared.kind.Kind.the-variants.{Volume, Live, Deleted, BlocksLeft}
 
@@ -43,4 +43,4 @@ named bytes (Some c) = Some (record { case = c; name = characters (nameOf bytes)
 
 abbrev pub kindOf : List ℕ → ℕ → Option Shown
 kindOf block number =
-    named (part (26 * (number % 39)) 26 block) (caseOf number (attributesOf (part (26 * (number % 39)) 26 block)))
+    named (entryIn block number) (caseOf number (attributesOf (entryIn block number)))

@@ -1,5 +1,6 @@
 // The attribute byte of an entry, its bits by name.
 ghost use mathlib.Core.Path.{_≡_};
+ghost use Prim.Native.Nat.{_<_};
 ghost use Rattle.entry.specs.Attributes.{bitOf};
 ghost use Rattle.entry.specs.Fields.{bit as isSet};
 
@@ -40,10 +41,18 @@ pub struct Attributes {
     pub byte: u8,
 }
 
+// Whether a bit of a byte is set.
+fn is_set(byte: u8, bit: u8) -> bool
+    requires { ⌜ bit < 8 ⌝ }
+    ensures { λ r. ⌜ r ≡ isSet bit byte ⌝ }
+{
+    (byte >> bit) & 1 == 1
+}
+
 impl Attributes {
     pub fn has(self, attribute: Attribute) -> bool
         ensures { λ r. ⌜ r ≡ isSet (bitOf attribute) (self .byte) ⌝ }
     {
-        (self.byte >> attribute.bit()) & 1 == 1
+        is_set(self.byte, attribute.bit())
     }
 }

@@ -1,7 +1,6 @@
 // The fields of an entry, read from their places in its 26 bytes.
 ghost use mathlib.Core.Path.{_≡_};
-ghost use Prim.Native.Nat.{_*_, _%_};
-ghost use Rattle.entry.specs.Fields.{attributesOf, checkBytes, checkOf, dateOf, directoryOf, firstOf, lastOf, nameOf, part, roomOf, sizeOf, usedOf};
+ghost use Rattle.entry.specs.Fields.{attributesOf, checkBytes, checkOf, dateOf, directoryOf, entryIn, firstOf, lastOf, nameOf, roomOf, sizeOf, usedOf};
 ghost use Rattle.entry.specs.Lengths.{lengthOf};
 ghost use Rattle.entry.specs.Stamps.{stampOf};
 ghost use Rattle.std.specs.shelf.Text.{sameBytes};
@@ -11,6 +10,7 @@ use crate::length::length_of;
 use crate::stamp::Stamp;
 use crate::stamp::read_stamp;
 use names::FIELD;
+use names::same_bytes;
 
 // The bytes of an entry.
 pub const ENTRY: usize = 26;
@@ -30,7 +30,7 @@ pub struct Entry {
 impl Entry {
     // The entry of that number, as it stands in the directory block that holds it.
     pub fn from_block(block: &[u8; BLOCK], number: u32) -> Entry
-        ensures { λ r. ⌜ r .bytes ≡ part (26 * (number % 39)) 26 (now (block .entry)) ⌝ }
+        ensures { λ r. ⌜ r .bytes ≡ entryIn (now (block .entry)) number ⌝ }
     {
         let at = ENTRY * (number % ENTRIES) as usize;
         let mut bytes = [0; ENTRY];
@@ -91,14 +91,16 @@ impl Entry {
     pub fn stamp(&self) -> Option<Stamp>
         ensures { λ r. ⌜ r ≡ stampOf (dateOf (now (self .entry) .bytes)) ⌝ }
     {
-        read_stamp([self.bytes[23], self.bytes[24], self.bytes[25]])
+        let mut date = [0; 3];
+        date.copy_from_slice(&self.bytes[23..26]);
+        read_stamp(date)
     }
 
     // In the volume's entry: whether the bytes stand there by which a directory is known.
     pub fn has_check_bytes(&self) -> bool
         ensures { λ r. ⌜ r ≡ sameBytes (checkOf (now (self .entry) .bytes)) checkBytes ⌝ }
     {
-        &self.bytes[13..17] == &CHECK_BYTES[..]
+        same_bytes(&self.bytes[13..17], &CHECK_BYTES)
     }
 
     // In the volume's entry: the blocks of the volume.

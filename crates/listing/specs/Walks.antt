@@ -15,7 +15,7 @@ use Rattle.std.specs.declared.result.Result.the-variants.{Ok, Err}
 use Rattle.std.specs.shelf.Text.{sameBytes}
 use Rattle.refusal.specs.declared.Refusal.{Refusal}
 use Rattle.refusal.specs.declared.Refusal.the-variants.{OutOfRange, BrokenLayout}
-use Rattle.entry.specs.Fields.{attributesOf, bit, checkBytes, checkOf, directoryOf, lastOf, part, sizeOf, usedOf}
+use Rattle.entry.specs.Fields.{attributesOf, bit, checkBytes, checkOf, directoryOf, entryIn, lastOf, part, sizeOf, usedOf}
 use Rattle.entry.specs.Lengths.{lengthOf}
 use Rattle.listing.specs.declared.walk.Found.{Found}
 
@@ -25,7 +25,7 @@ block image b = part (1024 * b) 1024 image
 
 -- Entry e is the (e mod 39)th of block 1 + e ÷ 39.
 abbrev pub imageEntry : List ℕ → ℕ → List ℕ
-imageEntry image e = part (26 * (e % 39)) 26 (block image (1 + e / 39))
+imageEntry image e = entryIn (block image (1 + e / 39)) e
 
 -- The first of `count` entries from e on that passes the test.
 abbrev pub firstThat : (List ℕ → Bool) → List ℕ → ℕ → ℕ → Option ℕ

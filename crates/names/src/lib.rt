@@ -9,6 +9,7 @@ mod whole;
 pub use given::ETX;
 pub use given::characters;
 pub use given::same;
+pub use given::same_bytes;
 pub use rules::FIELD;
 pub use stem::Stem;
 pub use volume::VolumeName;

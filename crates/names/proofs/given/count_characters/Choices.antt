@@ -3,7 +3,7 @@ use mathlib.Core.List.{_++_}
 use Prim.Native.Nat.{_+_}
 use lib.ListN.{length, take, drop}
 use Rattle.names.specs.Names.{characters}
-use Rattle.names.proofs.given.characters.Given as given
+use Rattle.names.proofs.given.count_characters.Given as given
 
 -- what was passed and the characters of what is left are the characters of the whole
 abbrev pub Inv-loop-left : given.InvT-loop-left
