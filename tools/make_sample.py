@@ -1,14 +1,24 @@
 #!/usr/bin/env python3
-"""Make a sample pack image and the catalogue text that belongs to it.
+"""Make a sample pack, as image and as disk, and the catalogue text of it.
 
 Writes, under the repository root (or the directory given as argument):
 
-    crates/pack/data/sample.pack   an image in the Coleco ADAM EOS layout
-    crates/pack/stdout             what `pack catalogue` should print for it
+    crates/pack/data/sample.pack         an image in the Coleco ADAM EOS layout
+    crates/pack/data/sample.disk         the same blocks as a sector disk
+    crates/pack/data/bad-directory.disk  that disk, its directory block bad
+    crates/pack/stdout                   what `pack catalogue` should print
+
+A sector disk is 320 records of 513 bytes: the 512 data bytes of a sector and a
+status byte, 0 for a good record.  Block b is sectors 2b and 2b + 1.  Sector q
+lies in record 8t + (5r mod 8), where t is q div 8 and r is q mod 8.
+
+In sample.disk the second sector of block 150 has status 10h.  No file has that
+block, so the catalogue of the disk is that of the image.  In bad-directory.disk
+the second sector of block 1, the directory, has status 01h besides.
 
 The script is an independent check of the product: it shares no code with it
 and reads nothing of it.  The catalogue text comes from the table of files
-below, never from the image.
+below, never from the image or a disk.
 """
 
 from __future__ import annotations
@@ -24,6 +34,12 @@ ENTRIES_PER_BLOCK = 39
 NAME_FIELD = 12
 FIRST_FILE_ENTRY = 3
 ETX = b"\x03"
+
+SECTOR = 512
+SECTORS_PER_BLOCK = 2
+SECTORS_PER_TRACK = 8
+STEP = 5
+DISK_BLOCKS = 160
 
 LOCKED = 0x80
 WRITE_PROTECTED = 0x40
@@ -144,6 +160,34 @@ SAMPLE = Pack(
 )
 
 
+@dataclass(frozen=True)
+class Disk:
+    """A pack on a sector disk; `statuses` has those sectors whose is not 0."""
+
+    pack: Pack
+    statuses: dict[int, int]
+
+    def __post_init__(self) -> None:
+        if self.pack.blocks != DISK_BLOCKS:
+            raise ValueError(f"a disk has {DISK_BLOCKS} blocks")
+        for sector, status in self.statuses.items():
+            if not 0 <= sector < DISK_BLOCKS * SECTORS_PER_BLOCK:
+                raise ValueError(f"sector {sector}: not on the disk")
+            if not 1 <= status <= 255:
+                raise ValueError(f"sector {sector}: no status of a bad record")
+
+
+FREE_BLOCK = 150
+DIRECTORY_BLOCK = 1
+
+if not SAMPLE.left_from <= FREE_BLOCK < SAMPLE.blocks:
+    raise ValueError(f"block {FREE_BLOCK} is not free")
+
+SAMPLE_DISK = Disk(SAMPLE, {2 * FREE_BLOCK + 1: 0x10})
+BAD_DIRECTORY_DISK = Disk(
+    SAMPLE, {**SAMPLE_DISK.statuses, 2 * DIRECTORY_BLOCK + 1: 0x01})
+
+
 def name_bytes(name: str, tail: bytes = b"") -> bytes:
     field = name.encode("ascii") + ETX + tail
     if len(field) > NAME_FIELD:
@@ -222,6 +266,22 @@ def image_bytes(pack: Pack) -> bytes:
     return bytes(image)
 
 
+def record_of(sector: int) -> int:
+    """The record in which a sector lies."""
+    track, place = divmod(sector, SECTORS_PER_TRACK)
+    return SECTORS_PER_TRACK * track + STEP * place % SECTORS_PER_TRACK
+
+
+def disk_bytes(disk: Disk) -> bytes:
+    image = image_bytes(disk.pack)
+    records = {}
+    for sector in range(len(image) // SECTOR):
+        data = image[sector * SECTOR:(sector + 1) * SECTOR]
+        status = disk.statuses.get(sector, 0)
+        records[record_of(sector)] = data + bytes([status])
+    return b"".join(records[record] for record in range(len(records)))
+
+
 def counted(number: int, thing: str) -> str:
     return f"{number} {thing}" if number == 1 else f"{number} {thing}s"
 
@@ -266,6 +326,11 @@ def write_image(pack: Pack, path: Path) -> None:
     path.write_bytes(image_bytes(pack))
 
 
+def write_disk(disk: Disk, path: Path) -> None:
+    path.parent.mkdir(parents=True, exist_ok=True)
+    path.write_bytes(disk_bytes(disk))
+
+
 def write_catalogue(pack: Pack, path: Path) -> None:
     path.parent.mkdir(parents=True, exist_ok=True)
     path.write_bytes(catalogue_text(pack).encode("ascii"))
@@ -273,12 +338,16 @@ def write_catalogue(pack: Pack, path: Path) -> None:
 
 def main() -> None:
     parser = argparse.ArgumentParser(
-        description="Write the sample pack image and its catalogue text.")
+        description="Write the sample pack, as image and as disk, "
+                    "and its catalogue text.")
     parser.add_argument("root", nargs="?", type=Path,
                         default=Path(__file__).resolve().parent.parent,
                         help="output root (default: the repository root)")
     root = parser.parse_args().root
-    write_image(SAMPLE, root / "crates/pack/data/sample.pack")
+    data = root / "crates/pack/data"
+    write_image(SAMPLE, data / "sample.pack")
+    write_disk(SAMPLE_DISK, data / "sample.disk")
+    write_disk(BAD_DIRECTORY_DISK, data / "bad-directory.disk")
     write_catalogue(SAMPLE, root / "crates/pack/stdout")
 
 

@@ -1,0 +1,4 @@
+pub mod Imaging
+pub mod Layering
+pub mod Tables
+pub mod Through

@@ -1,0 +1,3 @@
+pub mod Devices
+pub mod Images
+pub mod Layers
