@@ -15,6 +15,8 @@ use Rattle.std.specs.shelf.Text.{sameBytes}
 use Rattle.refusal.specs.Refusals.{line}
 use Rattle.arguments.specs.declared.commands.Command.{Command}
 use Rattle.arguments.specs.declared.commands.Command.the-variants.{Help, Catalogue, Find}
+use Rattle.arguments.specs.declared.commands.Medium.{Medium}
+use Rattle.arguments.specs.declared.commands.Medium.the-variants.{Image, Disk}
 use Rattle.arguments.specs.declared.commands.Misuse.{Misuse}
 use Rattle.arguments.specs.declared.commands.Misuse.the-variants.{UnknownCommand, CatalogueForm, FindForm}
 use Rattle.arguments.specs.declared.commands.Name.{Name}
@@ -24,26 +26,36 @@ use Rattle.listing.specs.declared.failure.Failure.the-variants.{Memory, Refused
 
 pub data Asked : Type 0 where
   help : Asked
-  catalogue : List ℕ → Asked
-  find : List ℕ → List ℕ → Asked
+  catalogue : Medium → List ℕ → Asked
+  find : Medium → List ℕ → List ℕ → Asked
   misuse : Misuse → Asked
 
 abbrev pub listed : Result Command Misuse → Asked
 listed (Ok Help) = help
-listed (Ok (Catalogue path)) = catalogue (now path)
-listed (Ok (Find path name)) = find (now path) (now name)
+listed (Ok (Catalogue medium path)) = catalogue medium (now path)
+listed (Ok (Find medium path name)) = find medium (now path) (now name)
 listed (Err why) = misuse why
 
-abbrev pub catalogueAsked : List (List ℕ) → Asked
-catalogueAsked [] = misuse CatalogueForm
-catalogueAsked (path ∷ []) = catalogue path
-catalogueAsked (path ∷ (next ∷ more)) = misuse CatalogueForm
+-- A disk is asked for by the option `--disk` before the file.
+abbrev pub mediumAsked : List (List ℕ) → Medium
+mediumAsked [] = Image
+mediumAsked (word ∷ more) = cond (sameBytes word (codes "--disk")) Disk Image
 
-abbrev pub findAsked : List (List ℕ) → Asked
-findAsked [] = misuse FindForm
-findAsked (path ∷ []) = misuse FindForm
-findAsked (path ∷ (name ∷ [])) = find path name
-findAsked (path ∷ (name ∷ (next ∷ more))) = misuse FindForm
+-- The arguments without that option.
+abbrev pub placesAsked : List (List ℕ) → List (List ℕ)
+placesAsked [] = []
+placesAsked (word ∷ more) = cond (sameBytes word (codes "--disk")) more (word ∷ more)
+
+abbrev pub catalogueAsked : Medium → List (List ℕ) → Asked
+catalogueAsked medium [] = misuse CatalogueForm
+catalogueAsked medium (path ∷ []) = catalogue medium path
+catalogueAsked medium (path ∷ (next ∷ more)) = misuse CatalogueForm
+
+abbrev pub findAsked : Medium → List (List ℕ) → Asked
+findAsked medium [] = misuse FindForm
+findAsked medium (path ∷ []) = misuse FindForm
+findAsked medium (path ∷ (name ∷ [])) = find medium path name
+findAsked medium (path ∷ (name ∷ (next ∷ more))) = misuse FindForm
 
 -- The command of a name.
 abbrev pub nameOf : List ℕ → Name
@@ -53,8 +65,8 @@ nameOf word =
 
 abbrev pub nameAsked : Name → List (List ℕ) → Asked
 nameAsked HelpName rest = help
-nameAsked CatalogueName rest = catalogueAsked rest
-nameAsked FindName rest = findAsked rest
+nameAsked CatalogueName rest = catalogueAsked (mediumAsked rest) (placesAsked rest)
+nameAsked FindName rest = findAsked (mediumAsked rest) (placesAsked rest)
 nameAsked Unknown rest = misuse UnknownCommand
 
 abbrev pub asked : List (List ℕ) → Asked
@@ -63,8 +75,8 @@ asked (word ∷ rest) = nameAsked (nameOf word) rest
 
 abbrev pub misuseText : Misuse → List ℕ
 misuseText UnknownCommand = codes "there is no such command; the commands are catalogue and find, and pack --help explains them"
-misuseText CatalogueForm = codes "a catalogue is of one file: pack catalogue FILE"
-misuseText FindForm = codes "a find takes a file and a name: pack find FILE NAME"
+misuseText CatalogueForm = codes "a catalogue is of one file: pack catalogue [--disk] FILE"
+misuseText FindForm = codes "a find takes a file and a name: pack find [--disk] FILE NAME"
 
 abbrev pub reason : Failure → List ℕ
 reason Memory = codes "there is not enough memory"

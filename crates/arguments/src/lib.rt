@@ -2,6 +2,9 @@
 mod commands;
 
 pub use commands::Command;
+pub use commands::Medium;
+pub use commands::MediumDebug;
+pub use commands::MediumPartialEq;
 pub use commands::Misuse;
 pub use commands::MisuseDebug;
 pub use commands::MisusePartialEq;

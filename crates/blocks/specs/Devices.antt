@@ -3,6 +3,7 @@
 --   sizeOf                 how many blocks it has
 --   blockAt, markAt        the bytes and the mark of a block
 --   readFault, writeFault  why reading or writing a block is refused, if it is
+--   refusalOf              the refusal that a fault is to a caller of the unit
 --   outcome                the reply to that
 --   readOut, written       the buffer after a read, the device after a write
 use mathlib.Core.Bool.{Bool, true, false, _&&_, cond}
@@ -14,6 +15,8 @@ use Rattle.std.specs.declared.option.Option.{Option}
 use Rattle.std.specs.declared.option.Option.the-variants.{Some, None}
 use Rattle.std.specs.declared.result.Result.{Result}
 use Rattle.std.specs.declared.result.Result.the-variants.{Ok, Err}
+use Rattle.refusal.specs.declared.Refusal.{Refusal}
+use Rattle.refusal.specs.declared.Refusal.the-variants.{OutOfRange as Refused17, WriteProtected as Refused32, BadBlock as Refused22}
 use Rattle.blocks.specs.declared.faults.Fault.{Fault}
 use Rattle.blocks.specs.declared.faults.Fault.the-variants.{OutOfRange, WriteProtected, BadBlock}
 use Rattle.blocks.specs.declared.faults.Mark.{Mark}
@@ -46,6 +49,12 @@ abbrev pub listed : Fault → Listed
 listed (OutOfRange place) = record { number = 17; depth = 0; place = place }
 listed (WriteProtected depth) = record { number = 32; depth = depth; place = 0 }
 listed (BadBlock depth place) = record { number = 22; depth = depth; place = place }
+
+-- The refusal that a fault is to a caller of the unit.
+abbrev pub refusalOf : Fault → Refusal
+refusalOf (OutOfRange place) = Refused17
+refusalOf (WriteProtected depth) = Refused32 depth
+refusalOf (BadBlock depth place) = Refused22 depth place
 
 -- A block below the size, and a buffer of 1,024 bytes.
 abbrev pub inRange : Device → ℕ → ℕ → Bool

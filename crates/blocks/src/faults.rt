@@ -1,7 +1,8 @@
 // What a device can refuse, and what it marks.
 ghost use mathlib.Core.Path.{_≡_};
-ghost use Rattle.blocks.specs.Devices.{listed};
+ghost use Rattle.blocks.specs.Devices.{listed, refusalOf};
 ghost use Rattle.blocks.specs.Layers.{deeper as deeperOf, deeperFault, deeperTab};
+use refusal::Refusal;
 
 // Whether a block can be read and written. A bad block has a depth, the layers between the device that marked it and
 // the one that is asked, and a place, the number that device gave it.
@@ -58,6 +59,17 @@ impl Fault {
             Fault::OutOfRange { place } => place,
             Fault::WriteProtected { .. } => 0,
             Fault::BadBlock { place, .. } => u32::from(place),
+        }
+    }
+
+    // The refusal that the fault is to a caller of the unit.
+    pub fn refusal(self) -> Refusal
+        ensures { λ r. ⌜ r ≡ refusalOf self ⌝ }
+    {
+        match self {
+            Fault::OutOfRange { .. } => Refusal::OutOfRange,
+            Fault::WriteProtected { depth } => Refusal::WriteProtected { depth },
+            Fault::BadBlock { depth, place } => Refusal::BadBlock { depth, place },
         }
     }
 

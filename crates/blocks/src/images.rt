@@ -1,7 +1,7 @@
 // The image: bytes handed in, block b at byte 1,024 × b, all blocks sound.
 ghost use mathlib.Core.Bool.{true, false};
 ghost use mathlib.Core.Path.{_≡_};
-ghost use Prim.Native.Nat.{ℕ, _+_, _<_, _≤_};
+ghost use Prim.Native.Nat.{ℕ, _+_, _*_, _<_, _≤_};
 ghost use lib.ListN.{drop, getD, length, take};
 ghost use Rattle.blocks.specs.Images.{encoded, imageOf, isImage as isImageOf, stored, tabOf};
 ghost use Rattle.refusal.specs.declared.Refusal.the-variants.{OutOfRange};
@@ -35,6 +35,13 @@ fn are_small(bytes: &[u8])
     ensures { λ _. ⌜ ((i : ℕ) → getD (now (bytes .entry)) i 0 < 256) ⌝ }
 {
     let _ = bytes.first();
+}
+
+// Where a block begins.
+fn start_of(block: u32) -> usize
+    ensures { λ r. ⌜ r ≡ 1024 * block ⌝ }
+{
+    BLOCK * block as usize
 }
 
 // Copies bytes from a place on into a buffer.
@@ -103,7 +110,7 @@ pub impl BlockDevice for Image as ImageDevice {
         if !is_in_range(block, self.size(), buffer.len()) {
             return Err(Fault::OutOfRange { place: block });
         }
-        copy_out(self.bytes.as_slice(), BLOCK * block as usize, buffer);
+        copy_out(self.bytes.as_slice(), start_of(block), buffer);
         Ok(())
     }
 
@@ -114,7 +121,7 @@ pub impl BlockDevice for Image as ImageDevice {
         if self.protected {
             return Err(Fault::WriteProtected { depth: 0 });
         }
-        copy_in(self.bytes.as_mut_slice(), BLOCK * block as usize, buffer);
+        copy_in(self.bytes.as_mut_slice(), start_of(block), buffer);
         Ok(())
     }
 }

@@ -7,10 +7,9 @@ use native.Mathlib.Omega.{arith}
 use lib.Dec.{eqb, leb}
 use lib.ListN.{length, take, drop}
 use Rattle.std.proofs.shelf.Lists.{take-take}
-use Rattle.std.proofs.shelf.Tests.{and-parts, leb-true}
 use Rattle.std.specs.declared.option.Option.the-variants.{Some, None}
 use Rattle.entry.specs.Fields.{part}
-use Rattle.listing.specs.Walks.{firstThat, imageEntry, isImage}
+use Rattle.listing.specs.Walks.{firstThat, imageEntry}
 
 module _ (P : List ℕ → Bool) (image : List ℕ) (e : ℕ) where
   -- an entry that passes is the first
@@ -31,7 +30,3 @@ module _ (P : List ℕ → Bool) (image : List ℕ) (e : ℕ) where
 -- a block that is cut out and then taken whole
 pub whole-block : (k n : ℕ) (xs block : List ℕ) → k ≡ n → block ≡ take n (take k xs) → block ≡ take n xs
 whole-block k n xs block e h = h ∙ ap (λ j. take n (take j xs)) e ∙ take-take n n xs (omega arith)
-
-pub image-blocks : (image : List ℕ) → isImage image ≡ true → length image / 1024 ≤ 65535
-image-blocks image h = leb-true (length image / 1024) 65535
-    (and-parts (leb 1 (length image / 1024)) _ (and-parts (eqb (length image % 1024) 0) _ h .1) .1)

@@ -1,8 +1,8 @@
--- What the commands print of an image. Assumes nothing.
+-- What the catalogue prints of a pack. Assumes nothing.
 --   countThat      how many of some entries pass a test
 --   rowsText       the lines of some files
---   catalogueText  what the catalogue prints of an image whose directory was walked
---   catalogued     the catalogue of an image, or why there is none
+--   catalogueText  what it prints where the directory was walked
+--   catalogued     the catalogue of the pack on a device, or why there is none
 use mathlib.Core.Bool.{Bool, cond}
 use mathlib.Core.List.{List, [], _∷_, _++_}
 use Prim.Native.Nat.{ℕ, zero, suc, _+_, _-_}
@@ -13,13 +13,15 @@ use Rattle.std.specs.declared.option.Option.the-variants.{Some, None}
 use Rattle.std.specs.declared.result.Result.{Result}
 use Rattle.std.specs.declared.result.Result.the-variants.{Ok, Err}
 use Rattle.refusal.specs.declared.Refusal.{Refusal}
+use Rattle.blocks.specs.Devices.{Device}
 use Rattle.names.specs.Names.{characters}
 use Rattle.entry.specs.Fields.{dateOf, firstOf, nameOf, roomOf, sizeOf}
 use Rattle.entry.specs.Stamps.{stampOf}
 use Rattle.entry.specs.declared.stamp.Stamp.{Stamp}
 use Rattle.lines.specs.Rows.{dateText, headings, rowText}
 use Rattle.lines.specs.Texts.{counted, escaped}
-use Rattle.listing.specs.Walks.{imageEntry, isDeleted, walked}
+use Rattle.listing.specs.Loads.{loaded, then}
+use Rattle.listing.specs.Walks.{directoryWalked, imageEntry, isDeleted}
 use Rattle.listing.specs.declared.walk.Found.{Found}
 
 abbrev pub countThat : (List ℕ → Bool) → List ℕ → ℕ → ℕ → ℕ
@@ -65,5 +67,5 @@ abbrev pub printed : (Found → List ℕ) → Result Found Refusal → Result (L
 printed text (Ok found) = Ok (text found)
 printed text (Err refusal) = Err refusal
 
-abbrev pub catalogued : List ℕ → Result (List ℕ) Refusal
-catalogued image = printed (catalogueText image) (walked image)
+abbrev pub catalogued : Device → Result (List ℕ) Refusal
+catalogued d = then (loaded d) (λ read. printed (catalogueText (read .bytes)) (directoryWalked (read .bytes) (read .blocks)))

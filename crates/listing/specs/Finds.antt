@@ -1,4 +1,4 @@
--- Finding a live file of an image by its name. Assumes nothing.
+-- Finding a live file of a pack by its name. Assumes nothing.
 --   byWhole, byStem   the first live file that a name fits, taken as a whole name or as a stem
 --   lookedUp          the file by its whole name or, where none fits, by its stem; or why there is none
 --   foundText         what the find command prints
@@ -12,10 +12,12 @@ use Rattle.std.specs.declared.result.Result.{Result}
 use Rattle.std.specs.declared.result.Result.the-variants.{Ok, Err}
 use Rattle.refusal.specs.declared.Refusal.{Refusal}
 use Rattle.refusal.specs.declared.Refusal.the-variants.{BadName, NoSuchFile}
+use Rattle.blocks.specs.Devices.{Device}
 use Rattle.names.specs.Names.{fitsStem, fitsWhole, isStem, isWhole}
 use Rattle.entry.specs.Fields.{nameOf}
 use Rattle.lines.specs.Rows.{rowText}
-use Rattle.listing.specs.Walks.{firstThat, imageEntry, isDeleted, walked}
+use Rattle.listing.specs.Loads.{loaded, then}
+use Rattle.listing.specs.Walks.{directoryWalked, firstThat, imageEntry, isDeleted}
 use Rattle.listing.specs.declared.finds.Fit.{Fit}
 use Rattle.listing.specs.declared.finds.Fit.the-variants.{Whole, Stem}
 use Rattle.listing.specs.declared.finds.Match.{Match}
@@ -53,5 +55,5 @@ abbrev pub found : List ℕ → List ℕ → Result Found Refusal → Result (Li
 found image given (Ok walk) = matchText image (lookedUp image (walk .left) given)
 found image given (Err refusal) = Err refusal
 
-abbrev pub foundText : List ℕ → List ℕ → Result (List ℕ) Refusal
-foundText image given = found image given (walked image)
+abbrev pub foundText : Device → List ℕ → Result (List ℕ) Refusal
+foundText d given = then (loaded d) (λ read. found (read .bytes) given (directoryWalked (read .bytes) (read .blocks)))

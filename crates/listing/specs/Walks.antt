@@ -1,7 +1,7 @@
--- The walk through the directory of an image, read from its bytes. Assumes nothing.
---   imageEntry   the 26 bytes of an entry of the directory
---   firstThat    the first entry of some that passes a test
---   walked       the directory blocks of an image and the number of its BLOCKS LEFT entry, or why it cannot be walked
+-- The walk through a directory whose blocks were read. Assumes nothing.
+--   imageEntry        the 26 bytes of an entry, where the bytes are those of the directory's blocks
+--   firstThat         the first entry of some that passes a test
+--   directoryWalked   the number of the BLOCKS LEFT entry, or why the directory cannot be walked
 use mathlib.Core.Bool.{Bool, true, false, not, _&&_, cond}
 use mathlib.Core.List.{List}
 use Prim.Native.Nat.{ℕ, zero, suc, _+_, _-_, _*_, _/_, _%_, _<_, _≤_}
@@ -19,29 +19,18 @@ use Rattle.entry.specs.Fields.{attributesOf, bit, checkBytes, checkOf, director
 use Rattle.entry.specs.Lengths.{lengthOf}
 use Rattle.listing.specs.declared.walk.Found.{Found}
 
--- A block of an image.
+-- A block of some bytes.
 abbrev pub block : List ℕ → ℕ → List ℕ
 block image b = part (1024 * b) 1024 image
 
--- Entry e is the (e mod 39)th of block 1 + e ÷ 39.
+-- Entry e is the (e mod 39)th of the directory's block e ÷ 39, the first being 0.
 abbrev pub imageEntry : List ℕ → ℕ → List ℕ
-imageEntry image e = entryIn (block image (1 + e / 39)) e
+imageEntry image e = entryIn (block image (e / 39)) e
 
 -- The first of `count` entries from e on that passes the test.
 abbrev pub firstThat : (List ℕ → Bool) → List ℕ → ℕ → ℕ → Option ℕ
 firstThat test image e zero = None
 firstThat test image e (suc count) = cond (test (imageEntry image e)) (Some e) (firstThat test image (e + 1) count)
-
--- The blocks of an image: 1 to 65,535 of them, of 1,024 bytes each.
-abbrev pub isImage : List ℕ → Bool
-isImage image = eqb (length image % 1024) 0 && (leb 1 (length image / 1024) && leb (length image / 1024) 65535)
-
--- The volume's entry: it has the check bytes, there is a directory block, and the volume has a block more than the
--- directory and no more than the image. (An image of one block has no directory, so its entry does not hold.)
-abbrev pub volumeHolds : ℕ → List ℕ → Bool
-volumeHolds blocks bytes =
-    leb 2 blocks && (sameBytes (checkOf bytes) checkBytes
-    && (leb 1 (directoryOf bytes) && (leb (directoryOf bytes + 1) (sizeOf bytes) && leb (sizeOf bytes) blocks)))
 
 abbrev pub isLeft : List ℕ → Bool
 isLeft bytes = bit 0 (attributesOf bytes)
@@ -55,7 +44,7 @@ isUnreadable bytes = not (isDeleted bytes) && not (isSome (lengthOf (usedOf byte
 
 -- The image holds the blocks that were found, and the BLOCKS LEFT entry stands in them, behind the first three.
 pub record Covers (found : Found) (image : List ℕ) : Type 0 where
-  pub blocks : 1024 * (1 + found .directory) ≤ length image
+  pub blocks : 1024 * found .directory ≤ length image
   pub few : found .directory < 128
   pub from : 3 ≤ found .left
   pub to : found .left < 39 * found .directory
@@ -72,9 +61,3 @@ leftWalked image directory (Some left) = filesWalked directory left (firstThat i
 
 abbrev pub directoryWalked : List ℕ → ℕ → Result Found Refusal
 directoryWalked image directory = leftWalked image directory (firstThat isLeft image 3 (39 * directory - 3))
-
-abbrev pub walked : List ℕ → Result Found Refusal
-walked image =
-    cond (isImage image)
-    (cond (volumeHolds (length image / 1024) (imageEntry image 0)) (directoryWalked image (directoryOf (imageEntry image 0))) (Err (BrokenLayout 0)))
-    (Err OutOfRange)

@@ -1,4 +1,4 @@
-// The catalogue of an image: its volume, its files, and the blocks that are left.
+// The catalogue of a pack: its volume, its files, and the blocks that are left.
 ghost use mathlib.Core.Path.{_≡_};
 ghost use Prim.Native.Nat.{_+_, _-_, _*_, _/_, _<_, _≤_};
 ghost use lib.ListN.{length};
@@ -10,9 +10,11 @@ ghost use Rattle.std.specs.Vec.{made};
 use crate::failure::Failure;
 use crate::failure::FailureFromAlloc;
 use crate::failure::FailureFromRefusal;
+use crate::load::load;
 use crate::walk::Found;
 use crate::walk::entry_at;
-use crate::walk::walk;
+use crate::walk::walk_directory;
+use blocks::BlockDevice;
 use entry::Attribute;
 use entry::Entry;
 use entry::Stamp;
@@ -27,7 +29,7 @@ use std::alloc::Global;
 
 // The lines of the files from entry `from` up to `to`.
 fn rows(heap: Global, image: &[u8], from: u32, to: u32) -> Result<String, AllocError>
-    requires { ⌜ 1024 * (2 + (to - 1) / 39) ≤ length (now image) ⌝ }
+    requires { ⌜ 1024 * (1 + (to - 1) / 39) ≤ length (now image) ⌝ }
     ensures { λ r. ⌜ made r (λ t. string-bytes t ≡ rowsText (now (image .entry)) from (to - from)) ⌝ }
 {
     let mut out = String::new(heap);
@@ -41,7 +43,7 @@ fn rows(heap: Global, image: &[u8], from: u32, to: u32) -> Result<String, AllocE
 
 // How many of the files from entry `from` up to `to` are deleted.
 fn count_deleted(image: &[u8], from: u32, to: u32) -> u32
-    requires { ⌜ 1024 * (2 + (to - 1) / 39) ≤ length (now image) ⌝ }
+    requires { ⌜ 1024 * (1 + (to - 1) / 39) ≤ length (now image) ⌝ }
     ensures { λ r. ⌜ r ≡ countThat isDeleted (now (image .entry)) from (to - from) ⌝ }
 {
     let mut count = 0;
@@ -134,10 +136,11 @@ fn catalogue_text(heap: Global, image: &[u8], found: Found) -> Result<String, Al
     )
 }
 
-// The catalogue of an image, or why there is none: nothing is printed of an image that cannot be walked to its end.
-pub fn catalogue(heap: Global, image: &[u8]) -> Result<String, Failure>
-    ensures { λ r. ⌜ Answers r (catalogued (now (image .entry))) ⌝ }
+// The catalogue of a pack, or why there is none: nothing is printed of one that cannot be walked to its end.
+pub fn catalogue<D: BlockDevice>(heap: Global, device: &D) -> Result<String, Failure>
+    ensures { λ r. ⌜ Answers r (catalogued (D·BlockDevice .meaning (now (device .entry)))) ⌝ }
 {
-    let found = walk(image)?;
-    Ok(catalogue_text(heap, image, found)?)
+    let directory = load(heap, device)?;
+    let found = walk_directory(directory.bytes.as_slice(), directory.blocks)?;
+    Ok(catalogue_text(heap, directory.bytes.as_slice(), found)?)
 }

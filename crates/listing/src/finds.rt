@@ -1,18 +1,20 @@
-// Finding a live file of an image by its whole name or by its stem.
+// Finding a live file of a pack by its whole name or by its stem.
 ghost use mathlib.Core.Path.{_≡_};
 ghost use Prim.Native.Nat.{_+_, _-_, _*_, _/_, _<_, _≤_};
 ghost use lib.ListN.{length};
 ghost use Rattle.listing.specs.Answered.{Answers};
-ghost use Rattle.listing.specs.Finds.{byStem, byWhole, fitText, foundText, liveStem, liveWhole, lookedUp};
+ghost use Rattle.listing.specs.Finds.{byStem, byWhole, fitText, foundText, liveStem, liveWhole, lookedUp, matchText};
 ghost use Rattle.std.specs.Options.{Cases};
 ghost use Rattle.std.specs.Vec.{made};
 use crate::failure::Failure;
 use crate::failure::FailureFromAlloc;
 use crate::failure::FailureFromRefusal;
+use crate::load::load;
 use crate::walk::Test;
 use crate::walk::entry_at;
 use crate::walk::first;
-use crate::walk::walk;
+use crate::walk::walk_directory;
+use blocks::BlockDevice;
 use entry::Attribute;
 use entry::Entry;
 use lines::row;
@@ -65,7 +67,7 @@ pub(crate) struct Match {
 
 // The first live file before entry `left` that the name fits as a whole name.
 fn by_whole(image: &[u8], left: u32, given: &[u8]) -> Option<u32>
-    requires { ⌜ 1024 * (2 + (left - 1) / 39) ≤ length (now image) ⌝ }
+    requires { ⌜ 1024 * (1 + (left - 1) / 39) ≤ length (now image) ⌝ }
     ensures value { λ r. ⌜ r ≡ byWhole (now (image .entry)) left (now (given .entry)) ⌝ }
     ensures before { λ r. ⌜ Cases r (Unit {0}) (λ e. e < left) ⌝ }
 {
@@ -77,7 +79,7 @@ fn by_whole(image: &[u8], left: u32, given: &[u8]) -> Option<u32>
 
 // The first live file before entry `left` that the name fits as a stem.
 fn by_stem(image: &[u8], left: u32, given: &[u8]) -> Option<u32>
-    requires { ⌜ 1024 * (2 + (left - 1) / 39) ≤ length (now image) ⌝ }
+    requires { ⌜ 1024 * (1 + (left - 1) / 39) ≤ length (now image) ⌝ }
     ensures value { λ r. ⌜ r ≡ byStem (now (image .entry)) left (now (given .entry)) ⌝ }
     ensures before { λ r. ⌜ Cases r (Unit {0}) (λ e. e < left) ⌝ }
 {
@@ -89,7 +91,7 @@ fn by_stem(image: &[u8], left: u32, given: &[u8]) -> Option<u32>
 
 // The file by its whole name or, where none fits, by its stem: the name without its type letter.
 fn look_up(image: &[u8], left: u32, given: &[u8]) -> Result<Match, Refusal>
-    requires { ⌜ 1024 * (2 + (left - 1) / 39) ≤ length (now image) ⌝ }
+    requires { ⌜ 1024 * (1 + (left - 1) / 39) ≤ length (now image) ⌝ }
     ensures value { λ r. ⌜ r ≡ lookedUp (now (image .entry)) left (now (given .entry)) ⌝ }
     ensures before { λ r. ⌜ made r (λ m. m .number < left) ⌝ }
 {
@@ -121,12 +123,21 @@ fn fit_text(fit: Fit) -> &'static str
 }
 
 // The line of the file that a name finds, and by what it was found.
-pub fn find(heap: Global, image: &[u8], given: &[u8]) -> Result<String, Failure>
-    ensures { λ r. ⌜ Answers r (foundText (now (image .entry)) (now (given .entry))) ⌝ }
+fn match_text(heap: Global, image: &[u8], left: u32, given: &[u8]) -> Result<String, Failure>
+    requires { ⌜ 1024 * (1 + (left - 1) / 39) ≤ length (now image) ⌝ }
+    ensures { λ r. ⌜ Answers r (matchText (now (image .entry)) (lookedUp (now (image .entry)) left (now (given .entry)))) ⌝ }
 {
-    let found = walk(image)?;
-    let hit = look_up(image, found.left, given)?;
+    let hit = look_up(image, left, given)?;
     let line = row(heap, hit.number, &entry_at(image, hit.number))?;
     let fit = fit_text(hit.fit);
     Ok(format!(heap, "{line}\n{fit}\n")?)
+}
+
+// Finds a live file of a pack by its name.
+pub fn find<D: BlockDevice>(heap: Global, device: &D, given: &[u8]) -> Result<String, Failure>
+    ensures { λ r. ⌜ Answers r (foundText (D·BlockDevice .meaning (now (device .entry))) (now (given .entry))) ⌝ }
+{
+    let directory = load(heap, device)?;
+    let found = walk_directory(directory.bytes.as_slice(), directory.blocks)?;
+    match_text(heap, directory.bytes.as_slice(), found.left, given)
 }

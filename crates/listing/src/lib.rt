@@ -1,7 +1,8 @@
-// What the program's commands print of an image.
+// What the program's commands print of a pack on any block device.
 mod catalogues;
 mod failure;
 mod finds;
+mod load;
 mod walk;
 
 pub use catalogues::catalogue;

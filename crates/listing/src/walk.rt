@@ -1,11 +1,11 @@
-// The walk through the directory of an image that is held in memory.
+// The walk through a directory whose blocks were read: bytes that hold them one after the other.
 ghost use mathlib.Core.Bool.{Bool};
 ghost use mathlib.Core.List.{List};
 ghost use mathlib.Core.Path.{_≡_};
 ghost use Prim.Native.Nat.{ℕ, _+_, _-_, _*_, _/_, _<_, _≤_};
 ghost use denote.Ref.{now};
 ghost use lib.ListN.{length};
-ghost use Rattle.listing.specs.Walks.{Covers, directoryWalked, firstThat, imageEntry, isImage, isLeft, isUnreadable, volumeHolds, walked};
+ghost use Rattle.listing.specs.Walks.{Covers, directoryWalked, firstThat, imageEntry, isLeft, isUnreadable};
 ghost use Rattle.std.specs.Options.{Cases};
 ghost use Rattle.std.specs.Vec.{made};
 use entry::Attribute;
@@ -14,12 +14,12 @@ use entry::ENTRIES;
 use entry::Entry;
 use refusal::Refusal;
 
-// The entry of that number, in an image that holds its block.
+// The entry of that number, in bytes that hold its block.
 pub(crate) fn entry_at(image: &[u8], number: u32) -> Entry
-    requires { ⌜ 1024 * (2 + number / 39) ≤ length (now image) ⌝ }
+    requires { ⌜ 1024 * (1 + number / 39) ≤ length (now image) ⌝ }
     ensures { λ r. ⌜ r .bytes ≡ imageEntry (now (image .entry)) number ⌝ }
 {
-    let at = BLOCK * (1 + (number / ENTRIES) as usize);
+    let at = BLOCK * (number / ENTRIES) as usize;
     let Some(block) = image[at..at + BLOCK].first_chunk::<BLOCK>() else {
         unreachable()
     };
@@ -36,7 +36,7 @@ pub(crate) trait Test {
 
 // The first entry from `from` up to `to` that passes a test.
 pub(crate) fn first<T: Test>(image: &[u8], test: &T, from: u32, to: u32) -> Option<u32>
-    requires { ⌜ 1024 * (2 + (to - 1) / 39) ≤ length (now image) ⌝ }
+    requires { ⌜ 1024 * (1 + (to - 1) / 39) ≤ length (now image) ⌝ }
     ensures value { λ r. ⌜ r ≡ firstThat (T·Test .passes (now (test .entry))) (now (image .entry)) from (to - from) ⌝ }
     ensures between { λ r. ⌜ Cases r (Unit {0}) (λ e. (from ≤ e) × (e < to)) ⌝ }
 {
@@ -70,35 +70,16 @@ impl Test for Unreadable as UnreadableTest {
     }
 }
 
-// Whether bytes are an image: 1 to 65,535 blocks.
-fn is_image(bytes: &[u8]) -> bool
-    ensures { λ r. ⌜ r ≡ isImage (now (bytes .entry)) ⌝ }
-{
-    bytes.len() % BLOCK == 0 && bytes.len() / BLOCK >= 1 && bytes.len() / BLOCK <= 65_535
-}
-
-// Whether the volume's entry can be the first of a directory on an image of so many blocks.
-fn volume_holds(blocks: u32, volume: &Entry) -> bool
-    requires { ⌜ 2 ≤ blocks ⌝ }
-    ensures { λ r. ⌜ r ≡ volumeHolds blocks (now (volume .entry) .bytes) ⌝ }
-{
-    let directory = u32::from(volume.directory_blocks());
-    volume.has_check_bytes()
-        && directory >= 1
-        && directory < volume.size()
-        && volume.size() <= blocks
-}
-
-// What a walk learns of an image: its directory blocks, and the number of its BLOCKS LEFT entry.
+// What a walk learns of a directory: its blocks, and the number of its BLOCKS LEFT entry.
 #[derive(Clone, Copy, PartialEq, Eq, Debug)]
 pub(crate) struct Found {
     pub directory: u32,
     pub left: u32,
 }
 
-// Walks the files of an image with so many directory blocks.
-fn walk_directory(image: &[u8], directory: u32) -> Result<Found, Refusal>
-    requires within { ⌜ 1024 * (1 + directory) ≤ length (now image) ⌝ }
+// Walks a directory of so many blocks: it ends at the BLOCKS LEFT entry, and every live file before that has a length.
+pub(crate) fn walk_directory(image: &[u8], directory: u32) -> Result<Found, Refusal>
+    requires within { ⌜ 1024 * directory ≤ length (now image) ⌝ }
     requires some { ⌜ 1 ≤ directory ⌝ }
     requires few { ⌜ directory < 128 ⌝ }
     ensures value { λ r. ⌜ r ≡ directoryWalked (now (image .entry)) directory ⌝ }
@@ -114,23 +95,4 @@ fn walk_directory(image: &[u8], directory: u32) -> Result<Found, Refusal>
             entry: entry as u16,
         }),
     }
-}
-
-// Walks the directory of an image: it ends at the BLOCKS LEFT entry, and every live file before that has a length.
-pub(crate) fn walk(image: &[u8]) -> Result<Found, Refusal>
-    ensures value { λ r. ⌜ r ≡ walked (now (image .entry)) ⌝ }
-    ensures covers { λ r. ⌜ made r (λ found. Covers found (now (image .entry))) ⌝ }
-{
-    if !is_image(image) {
-        return Err(Refusal::OutOfRange);
-    }
-    let blocks = image.len() / BLOCK;
-    if blocks < 2 {
-        return Err(Refusal::BrokenLayout { entry: 0 });
-    }
-    let volume = entry_at(image, 0);
-    if !volume_holds(blocks as u32, &volume) {
-        return Err(Refusal::BrokenLayout { entry: 0 });
-    }
-    walk_directory(image, u32::from(volume.directory_blocks()))
 }

@@ -1,5 +1,8 @@
 // What arguments ask for.
 use arguments::Command;
+use arguments::Medium;
+use arguments::MediumDebug;
+use arguments::MediumPartialEq;
 use arguments::Misuse;
 use arguments::MisuseDebug;
 use arguments::MisusePartialEq;
@@ -33,15 +36,17 @@ fn help(rt: LibcRuntime) -> Result<(), Fail> {
 #[test]
 fn commands(rt: LibcRuntime) -> Result<(), Fail> {
     let args = words(rt.alloc(), &["catalogue", "a.pack"])?;
-    let Ok(Command::Catalogue { path }) = read_arguments(args.as_slice()) else {
+    let Ok(Command::Catalogue { medium, path }) = read_arguments(args.as_slice()) else {
         return Err(Fail::new("a catalogue of one file"));
     };
+    check_eq(medium, Medium::Image)?;
     check(path == "a.pack")?;
-    let args = words(rt.alloc(), &["find", "a.pack", "LETTERH"])?;
-    let Ok(Command::Find { path, name }) = read_arguments(args.as_slice()) else {
-        return Err(Fail::new("a find in a file"));
+    let args = words(rt.alloc(), &["find", "--disk", "a.disk", "LETTERH"])?;
+    let Ok(Command::Find { medium, path, name }) = read_arguments(args.as_slice()) else {
+        return Err(Fail::new("a find on a disk"));
     };
-    check(path == "a.pack")?;
+    check_eq(medium, Medium::Disk)?;
+    check(path == "a.disk")?;
     check(name == "LETTERH")
 }
 
@@ -50,6 +55,8 @@ fn misuses(rt: LibcRuntime) -> Result<(), Fail> {
     for (texts, expected) in [
         (&["catalogue"][..], Misuse::CatalogueForm),
         (&["catalogue", "a", "b"], Misuse::CatalogueForm),
+        (&["catalogue", "--disk"], Misuse::CatalogueForm),
+        (&["catalogue", "a", "--disk"], Misuse::CatalogueForm),
         (&["find"], Misuse::FindForm),
         (&["find", "a"], Misuse::FindForm),
         (&["find", "a", "b", "c"], Misuse::FindForm),

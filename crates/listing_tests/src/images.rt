@@ -1,6 +1,8 @@
-// Small images for the tests.
+// Small packs for the tests.
+use blocks::Image;
 use std::alloc::AllocError;
 use std::alloc::Global;
+use std::test::*;
 
 // Entries as the layout has them: a volume of 8 blocks with one directory block, the two entries behind it, and files.
 pub const VOLUME: &[u8; 26] =
@@ -43,16 +45,19 @@ pub fn zeros(heap: Global, count: usize) -> Result<Vec<u8>, AllocError> {
 }
 
 // An image of so many blocks whose directory begins with these entries.
-pub fn image(heap: Global, blocks: u16, entries: &[&[u8; 26]]) -> Result<Vec<u8>, AllocError> {
-    let mut image = zeros(heap, 1024 * usize::from(blocks))?;
+pub fn image(heap: Global, blocks: u16, entries: &[&[u8; 26]]) -> Result<Image, Fail> {
+    let mut bytes = zeros(heap, 1024 * usize::from(blocks))?;
     let mut at = 1024;
     for entry in entries {
         for byte in *entry {
-            if at < image.len() {
-                image[at] = *byte;
+            if at < bytes.len() {
+                bytes[at] = *byte;
                 at += 1;
             }
         }
     }
-    Ok(image)
+    match Image::new(bytes, false) {
+        Ok(image) => Ok(image),
+        Err(_) => Err(Fail::new("whole blocks are an image")),
+    }
 }

@@ -4,6 +4,8 @@ mod catalogue_tests;
 #[cfg(test)]
 mod command_tests;
 #[cfg(test)]
+mod disk_tests;
+#[cfg(test)]
 mod find_tests;
 #[cfg(test)]
 mod images;

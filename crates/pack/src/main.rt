@@ -1,12 +1,17 @@
 // The program `pack`: moves bytes between the arguments, the files and the screen. What they ask for and what is printed
 // is computed by the libraries `arguments` and `listing`.
 use arguments::Command;
+use arguments::Medium;
 use arguments::USAGE;
 use arguments::complaint;
 use arguments::read_arguments;
+use blocks::Image;
+use blocks::ImageDevice;
 use listing::Failure;
 use listing::catalogue;
 use listing::find;
+use sectors::SectorDisk;
+use sectors::SectorDiskDevice;
 use std::env;
 use std::error::AnyError;
 use std::fs;
@@ -42,23 +47,52 @@ fn read_file(rt: &LibcRuntime, path: &str) -> Result<Vec<u8>, AnyError> {
     }
 }
 
+// The catalogue of the pack in a file of that kind.
+fn catalogue_of(rt: &LibcRuntime, medium: Medium, bytes: Vec<u8>) -> Result<String, Failure> {
+    match medium {
+        Medium::Image => match Image::new(bytes, false) {
+            Ok(image) => catalogue(rt.alloc(), &image),
+            Err(rejected) => Err(Failure::Refused(rejected.refusal)),
+        },
+        Medium::Disk => match SectorDisk::new(bytes, false) {
+            Ok(disk) => catalogue(rt.alloc(), &disk),
+            Err(rejected) => Err(Failure::Refused(rejected.refusal)),
+        },
+    }
+}
+
+// The file that a name finds on the pack in a file of that kind.
+fn find_in(
+    rt: &LibcRuntime,
+    medium: Medium,
+    bytes: Vec<u8>,
+    name: &[u8],
+) -> Result<String, Failure> {
+    match medium {
+        Medium::Image => match Image::new(bytes, false) {
+            Ok(image) => find(rt.alloc(), &image, name),
+            Err(rejected) => Err(Failure::Refused(rejected.refusal)),
+        },
+        Medium::Disk => match SectorDisk::new(bytes, false) {
+            Ok(disk) => find(rt.alloc(), &disk, name),
+            Err(rejected) => Err(Failure::Refused(rejected.refusal)),
+        },
+    }
+}
+
 fn run(rt: &LibcRuntime, command: Command<'_>) -> Result<(), AnyError> {
     match command {
         Command::Help => {
             rt.print(USAGE)?;
             Ok(())
         }
-        Command::Catalogue { path } => {
-            let image = read_file(rt, path)?;
-            answer(rt, path, catalogue(rt.alloc(), image.as_slice()))
+        Command::Catalogue { medium, path } => {
+            let bytes = read_file(rt, path)?;
+            answer(rt, path, catalogue_of(rt, medium, bytes))
         }
-        Command::Find { path, name } => {
-            let image = read_file(rt, path)?;
-            answer(
-                rt,
-                path,
-                find(rt.alloc(), image.as_slice(), name.as_bytes()),
-            )
+        Command::Find { medium, path, name } => {
+            let bytes = read_file(rt, path)?;
+            answer(rt, path, find_in(rt, medium, bytes, name.as_bytes()))
         }
     }
 }

@@ -8,7 +8,7 @@ use Rattle.listing.proofs.walk.entry_at.Needs as need
 
 pub returns : need.returns
 returns c =
-    let at = 1024 * (1 + c .args .number / 39) in
+    let at = 1024 * (c .args .number / 39) in
     let size : at + 1024 - at ≡ 1024 = omega arith in
     c .from-block .ensures
     ∙ ap (part (26 * (c .args .number % 39)) 26)

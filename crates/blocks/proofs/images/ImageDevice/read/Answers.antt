@@ -1,6 +1,5 @@
-use mathlib.Core.Path.{_≡_, sym, ap, _∙_}
-use mathlib.Core.Bool.{Bool, true, _&&_}
-use Prim.Native.Nat.{_*_}
+use mathlib.Core.Path.{sym, ap, ap₂, _∙_}
+use mathlib.Core.Bool.{_&&_}
 use native.Mathlib.Omega.{arith}
 use lib.Dec.{eqb, ltb}
 use lib.ListN.{drop, length, take}
@@ -13,7 +12,7 @@ copy-out-requires c κs =
     let x = c .args .self .now in
     let len = length (c .args .buffer .now) in
     let within = ap (λ n. ltb (c .args .block) n && eqb len 1024) (sym (c .size .ensures)) ∙ sym (c .if-not-is-in-range .ensures tt) in
-    omega (arith, image-fits (vec-items (x .bytes)) (x .protected) (x .whole) (c .args .block) len within, ap length (c .as-slice .ensures .value))
+    omega (arith, image-fits (vec-items (x .bytes)) (x .protected) (x .whole) (c .args .block) len within, ap length (c .as-slice .ensures .value), c .start-of .ensures)
 
 pub returns : need.returns
 returns c =
@@ -23,6 +22,6 @@ returns c =
     record {
       reply = image-read (vec-items (x .bytes)) (x .protected) (x .whole) (c .args .block) len within;
       filled =
-          c .copy-out .ensures ∙ ap (λ xs. take len (drop (1024 * c .args .block) xs)) (c .as-slice .ensures .value)
+          c .copy-out .ensures ∙ ap₂ (λ xs at. take len (drop at xs)) (c .as-slice .ensures .value) (c .start-of .ensures)
           ∙ image-filled (vec-items (x .bytes)) (x .protected) (x .whole) (c .args .block) len within (c .args .buffer .now);
     }
