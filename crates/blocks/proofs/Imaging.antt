@@ -1,24 +1,23 @@
 -- Bytes as a device: its laws, its blocks, a write, and the bytes again. Assumes nothing.
 use mathlib.Core.Path.{_≡_, refl, sym, ap, ap₂, subst, _∙_}
 use mathlib.Core.Bool.{Bool, true, false, _&&_, cond}
-use mathlib.Core.List.{List, [], _∷_, _++_, map}
+use mathlib.Core.List.{List, [], _++_, map}
 use mathlib.Core.Logic.{_⊎_, inl, inr}
 use Prim.Native.Nat.{ℕ, zero, suc, _+_, _-_, _*_, _/_, _%_, _<_, _≤_}
 use native.Mathlib.Omega.{arith}
 use lib.Dec.{eqb, leb, lit<, lit≤, ltb}
-use lib.ListN.{length, getD, set, take, drop}
+use lib.ListN.{length, getD, take, drop}
 use lib.Seq.{take-add}
 use borrow.Rule.Slice.PartMut.{putMid}
 use Rattle.std.specs.Iters.{counting}
 use Rattle.std.specs.shelf.Lists.{joined}
-use Rattle.std.proofs.shelf.Lists.{drop-drop, getD-append-left, getD-append-right, getD-drop, getD-past, getD-take, length-append, length-drop, length-take, same-lists, take-all, drop-all}
+use Rattle.std.proofs.shelf.Lists.{drop-drop, getD-append-left, getD-append-right, getD-drop, getD-past, getD-take, length-append, length-drop, length-take, same-lists, take-all}
 use Rattle.std.proofs.shelf.Tests.{and-parts, cases-lt, eqb-true, leb-true, ltb-true}
-use Rattle.blocks.specs.Devices.{Device, ShallowMark, ShallowTab, blockAt, inRange, markAt, markFault, outcome, readFault, readOut, sizeOf, tabFault, writeFault, written}
+use Rattle.blocks.specs.Devices.{ShallowMark, ShallowTab, blockAt, inRange, markAt, markFault, outcome, readFault, readOut, sizeOf, tabFault, writeFault, written}
 use Rattle.blocks.specs.Images.{encoded, imageBlock, imageOf, isImage, numbered, stored, tabOf, tabulated}
 use Rattle.std.specs.declared.option.Option.the-variants.{Some, None}
 use Rattle.std.specs.declared.result.Result.the-variants.{Ok}
 use Rattle.blocks.specs.declared.faults.Fault.the-variants.{OutOfRange}
-use Rattle.blocks.specs.declared.faults.Mark.{Mark}
 use Rattle.blocks.specs.declared.faults.Mark.the-variants.{Sound}
 use Rattle.blocks.proofs.Tables.{getD-tabulated, length-tabulated, tabulated-past, tabulated-set}
 

@@ -1,16 +1,14 @@
 -- What a layer passes up is what its meaning says. Assumes nothing.
 use mathlib.Core.Path.{_≡_, refl, sym, ap, ap₂, _∙_}
-use mathlib.Core.Bool.{Bool, true, false, cond}
+use mathlib.Core.Bool.{true, cond}
 use mathlib.Core.List.{List, [], _∷_, map}
-use Prim.Native.Nat.{ℕ, zero, suc, _+_, _≤_}
+use Prim.Native.Nat.{ℕ, zero, suc}
 use native.Mathlib.Omega.{arith}
 use lib.ListN.{length, getD}
 use Rattle.std.proofs.shelf.Lists.{length-map}
-use Rattle.std.specs.declared.option.Option.{Option}
-use Rattle.std.specs.declared.option.Option.the-variants.{Some, None}
-use Rattle.blocks.specs.Devices.{Device, ShallowMark, ShallowTab, inRange, markAt, markFault, outcome, readFault, readOut, sizeOf, tabFault, writeFault}
-use Rattle.blocks.specs.Layers.{deeperFault, deeperMark, deeperTab, passedUp}
-use Rattle.blocks.specs.declared.faults.Fault.{Fault}
+use Rattle.std.specs.declared.option.Option.the-variants.{Some}
+use Rattle.blocks.specs.Devices.{Device, ShallowMark, ShallowTab, inRange, markAt, markFault, outcome, readFault, readOut, tabFault, writeFault}
+use Rattle.blocks.specs.Layers.{deeperMark, deeperTab, passedUp}
 use Rattle.blocks.specs.declared.faults.Fault.the-variants.{OutOfRange}
 use Rattle.blocks.specs.declared.faults.Mark.{Mark}
 use Rattle.blocks.specs.declared.faults.Mark.the-variants.{Sound, Bad}

@@ -6,7 +6,7 @@
 --   refusalOf              the refusal that a fault is to a caller of the unit
 --   outcome                the reply to that
 --   readOut, written       the buffer after a read, the device after a write
-use mathlib.Core.Bool.{Bool, true, false, _&&_, cond}
+use mathlib.Core.Bool.{Bool, _&&_, cond}
 use mathlib.Core.List.{List, []}
 use Prim.Native.Nat.{ℕ, _≤_}
 use lib.Dec.{eqb, ltb}

@@ -3,7 +3,7 @@
 --   passedUp    a reply as a layer passes it up
 --   windowed    some blocks of a device, as a device
 --   protected   a device whose tab is on
-use mathlib.Core.List.{List, map}
+use mathlib.Core.List.{map}
 use Prim.Native.Nat.{ℕ, min, _+_, _-_}
 use lib.ListN.{drop, take}
 use Rattle.std.specs.declared.result.Result.{Result}

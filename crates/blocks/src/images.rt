@@ -3,7 +3,7 @@ ghost use mathlib.Core.Bool.{true, false};
 ghost use mathlib.Core.Path.{_≡_};
 ghost use Prim.Native.Nat.{ℕ, _+_, _*_, _<_, _≤_};
 ghost use lib.ListN.{drop, getD, length, take};
-ghost use Rattle.blocks.specs.Images.{encoded, imageOf, isImage as isImageOf, stored, tabOf};
+ghost use Rattle.blocks.specs.Images.{encoded, imageOf, isImage as isImageOf, stored};
 ghost use Rattle.refusal.specs.declared.Refusal.the-variants.{OutOfRange};
 ghost use Rattle.std.specs.Of.Vec.{vec-items};
 ghost use Rattle.std.specs.Results.{Cases};

@@ -1,5 +1,5 @@
 // What every layer does: it tests the range itself, and passes up what the device below says, one deeper.
-ghost use mathlib.Core.Bool.{true, not, _&&_};
+ghost use mathlib.Core.Bool.{_&&_};
 ghost use mathlib.Core.Path.{_≡_};
 ghost use lib.Dec.{eqb, ltb};
 ghost use Rattle.blocks.specs.Layers.{passedUp};

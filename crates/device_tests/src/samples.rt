@@ -16,12 +16,12 @@ use std::alloc::Global;
 use std::test::*;
 
 // One byte, so many times.
-pub fn filled(heap: Global, value: u8, count: usize) -> Result<Vec<u8>, AllocError> {
+pub(crate) fn filled(heap: Global, value: u8, count: usize) -> Result<Vec<u8>, AllocError> {
     vec![in heap; value; count]
 }
 
 // A block for each of these bytes, filled with it.
-pub fn blocks_of(heap: Global, values: &[u8]) -> Result<Vec<u8>, AllocError> {
+pub(crate) fn blocks_of(heap: Global, values: &[u8]) -> Result<Vec<u8>, AllocError> {
     let mut bytes = Vec::new(heap);
     for value in values {
         bytes.extend_from_slice(&[*value; 1024])?;
@@ -30,7 +30,7 @@ pub fn blocks_of(heap: Global, values: &[u8]) -> Result<Vec<u8>, AllocError> {
 }
 
 // An image of three blocks: of ones, of twos and of threes.
-pub fn image(heap: Global, protected: bool) -> Result<Image, Fail> {
+pub(crate) fn image(heap: Global, protected: bool) -> Result<Image, Fail> {
     let Ok(image) = Image::new(blocks_of(heap, &[1, 2, 3])?, protected) else {
         return Err(Fail::new("three blocks are an image"));
     };
@@ -38,7 +38,7 @@ pub fn image(heap: Global, protected: bool) -> Result<Image, Fail> {
 }
 
 // The 320 records of a disk. Each is filled with its number, less 256 from record 256 on, and all are good.
-pub fn records(heap: Global) -> Result<Vec<u8>, AllocError> {
+pub(crate) fn records(heap: Global) -> Result<Vec<u8>, AllocError> {
     let mut bytes = Vec::new(heap);
     for record in 0..320u32 {
         bytes.extend_from_slice(&[(record % 256) as u8; 512])?;
@@ -48,14 +48,14 @@ pub fn records(heap: Global) -> Result<Vec<u8>, AllocError> {
 }
 
 // Puts a byte at so many places from a place on.
-pub fn put(bytes: &mut [u8], at: usize, count: usize, value: u8) {
+pub(crate) fn put(bytes: &mut [u8], at: usize, count: usize, value: u8) {
     for byte in bytes.iter_mut().skip(at).take(count) {
         *byte = value;
     }
 }
 
 // Those records, but that one has this status byte.
-pub fn records_with(heap: Global, record: u16, status: u8) -> Result<Vec<u8>, AllocError> {
+pub(crate) fn records_with(heap: Global, record: u16, status: u8) -> Result<Vec<u8>, AllocError> {
     let mut bytes = records(heap)?;
     put(
         bytes.as_mut_slice(),
@@ -67,7 +67,12 @@ pub fn records_with(heap: Global, record: u16, status: u8) -> Result<Vec<u8>, Al
 }
 
 // A disk of those records. With status 1 in record 15, which keeps its second sector, block 5 is bad.
-pub fn disk(heap: Global, record: u16, status: u8, protected: bool) -> Result<SectorDisk, Fail> {
+pub(crate) fn disk(
+    heap: Global,
+    record: u16,
+    status: u8,
+    protected: bool,
+) -> Result<SectorDisk, Fail> {
     let Ok(disk) = SectorDisk::new(records_with(heap, record, status)?, protected) else {
         return Err(Fail::new("320 records are a disk"));
     };
@@ -75,7 +80,11 @@ pub fn disk(heap: Global, record: u16, status: u8, protected: bool) -> Result<Se
 }
 
 // So many blocks of a device from a first one on.
-pub fn window<D: BlockDevice + Drop>(device: D, first: u32, count: u32) -> Result<Window<D>, Fail> {
+pub(crate) fn window<D: BlockDevice + Drop>(
+    device: D,
+    first: u32,
+    count: u32,
+) -> Result<Window<D>, Fail> {
     let Ok(window) = Window::new(device, first, count) else {
         return Err(Fail::new("the device has these blocks"));
     };
@@ -83,14 +92,14 @@ pub fn window<D: BlockDevice + Drop>(device: D, first: u32, count: u32) -> Resul
 }
 
 // Checks that what was refused is handed back with the number 17, so many bytes of it.
-pub fn check_rejected(rejected: Rejected<Vec<u8>>, count: usize) -> Result<(), Fail> {
+pub(crate) fn check_rejected(rejected: Rejected<Vec<u8>>, count: usize) -> Result<(), Fail> {
     let Rejected { refusal, given } = rejected;
     check_eq(refusal.number(), 17)?;
     check_eq(given.len(), count)
 }
 
 // Checks that the two halves of a block read as one byte each.
-pub fn check_halves<D: BlockDevice>(
+pub(crate) fn check_halves<D: BlockDevice>(
     device: &D,
     block: u32,
     first: u8,
@@ -103,7 +112,10 @@ pub fn check_halves<D: BlockDevice>(
 }
 
 // Checks the halves of some blocks.
-pub fn check_all_halves<D: BlockDevice>(device: &D, cases: &[(u32, u8, u8)]) -> Result<(), Fail> {
+pub(crate) fn check_all_halves<D: BlockDevice>(
+    device: &D,
+    cases: &[(u32, u8, u8)],
+) -> Result<(), Fail> {
     for (block, first, second) in cases {
         check_halves(device, *block, *first, *second)?;
     }
@@ -111,7 +123,7 @@ pub fn check_all_halves<D: BlockDevice>(device: &D, cases: &[(u32, u8, u8)]) -> 
 }
 
 // Checks that a device has a block for each of these bytes, and that the block reads as that byte throughout.
-pub fn check_values<D: BlockDevice>(device: &D, values: &[u8]) -> Result<(), Fail> {
+pub(crate) fn check_values<D: BlockDevice>(device: &D, values: &[u8]) -> Result<(), Fail> {
     check_eq(device.size() as usize, values.len())?;
     for (block, value) in (0..device.size()).zip(values) {
         check_halves(device, block, *value, *value)?;
@@ -120,20 +132,28 @@ pub fn check_values<D: BlockDevice>(device: &D, values: &[u8]) -> Result<(), Fai
 }
 
 // Writes one byte throughout a block, and checks that it then reads so.
-pub fn check_write<D: BlockDevice>(device: &mut D, block: u32, value: u8) -> Result<(), Fail> {
+pub(crate) fn check_write<D: BlockDevice>(
+    device: &mut D,
+    block: u32,
+    value: u8,
+) -> Result<(), Fail> {
     check_eq(device.write(block, &[value; 1024]), Ok(()))?;
     check_halves(device, block, value, value)
 }
 
 // Checks that a block cannot be read, and that the buffer is left as it was.
-pub fn check_no_read<D: BlockDevice>(device: &D, block: u32, fault: Fault) -> Result<(), Fail> {
+pub(crate) fn check_no_read<D: BlockDevice>(
+    device: &D,
+    block: u32,
+    fault: Fault,
+) -> Result<(), Fail> {
     let mut buffer = [0xee; 1024];
     check_eq(device.read(block, &mut buffer), Err(fault))?;
     check(buffer == [0xee; 1024])
 }
 
 // Checks that a block cannot be written.
-pub fn check_no_write<D: BlockDevice>(
+pub(crate) fn check_no_write<D: BlockDevice>(
     device: &mut D,
     block: u32,
     fault: Fault,
@@ -156,7 +176,7 @@ fn check_out<D: BlockDevice>(
 }
 
 // Checks that these blocks, with buffers of these lengths, are out of range.
-pub fn check_outside<D: BlockDevice>(
+pub(crate) fn check_outside<D: BlockDevice>(
     heap: Global,
     device: &mut D,
     cases: &[(u32, usize)],
@@ -168,7 +188,7 @@ pub fn check_outside<D: BlockDevice>(
 }
 
 // Checks what a device answers that has a block for each of these bytes: its tab, its blocks, and what is out of range.
-pub fn check_device<D: BlockDevice>(
+pub(crate) fn check_device<D: BlockDevice>(
     heap: Global,
     device: &mut D,
     values: &[u8],
@@ -192,7 +212,7 @@ pub fn check_device<D: BlockDevice>(
 }
 
 // Checks that a device's tab is on at a depth, and that its block is the bad block 5 of a disk at a depth.
-pub fn check_bad<D: BlockDevice>(
+pub(crate) fn check_bad<D: BlockDevice>(
     device: &mut D,
     block: u32,
     tab_depth: u8,
@@ -204,7 +224,7 @@ pub fn check_bad<D: BlockDevice>(
 }
 
 // Checks that an image has these blocks, and gives their bytes back in order.
-pub fn check_image(heap: Global, image: Image, values: &[u8]) -> Result<(), Fail> {
+pub(crate) fn check_image(heap: Global, image: Image, values: &[u8]) -> Result<(), Fail> {
     check_values(&image, values)?;
     let bytes = blocks_of(heap, values)?;
     check(image.bytes() == bytes.as_slice())?;
@@ -212,7 +232,7 @@ pub fn check_image(heap: Global, image: Image, values: &[u8]) -> Result<(), Fail
 }
 
 // Checks that a disk gives these bytes back.
-pub fn check_disk(disk: SectorDisk, bytes: &[u8]) -> Result<(), Fail> {
+pub(crate) fn check_disk(disk: SectorDisk, bytes: &[u8]) -> Result<(), Fail> {
     check(disk.bytes() == bytes)?;
     check(disk.into_bytes().as_slice() == bytes)
 }

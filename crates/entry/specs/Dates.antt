@@ -1,7 +1,7 @@
 -- Days of the calendar, and the three bytes that hold one. Assumes nothing.
 --   daysIn      the days of a month, by the Gregorian rule
 --   isDay       a calendar day of the years that an entry can hold and the machine has seen, 1983 to 2155
-use mathlib.Core.Bool.{Bool, true, false, not, _&&_, _||_, cond}
+use mathlib.Core.Bool.{Bool, not, _&&_, _||_, cond}
 use Prim.Native.Nat.{ℕ, _%_}
 use lib.Dec.{eqb, leb}
 

@@ -1,7 +1,7 @@
 -- A file's length as its entry has it: used blocks, and bytes in the last of them. Assumes nothing.
 --   split      the pair that a length has
 --   lengthOf   the length of a pair, if some length has it
-use mathlib.Core.Bool.{Bool, true, false, _&&_, cond}
+use mathlib.Core.Bool.{_&&_, cond}
 use Prim.Native.Nat.{ℕ, _+_, _-_, _*_, _/_}
 use lib.Dec.{eqb, leb}
 use Rattle.std.specs.declared.option.Option.{Option}

@@ -4,7 +4,7 @@
 --   dateText   a date, or a dash
 --   rowText    the line of the entry with a number and its 26 bytes
 use mathlib.Core.Bool.{cond}
-use mathlib.Core.List.{List, [], _∷_, _++_}
+use mathlib.Core.List.{List, _++_}
 use Prim.Native.Nat.{ℕ, _-_}
 use lib.Chars.{codes}
 use lib.ListN.{drop, length}

@@ -11,16 +11,16 @@ use Rattle.entry.specs.Fields.{nameOf}
 use Rattle.listing.specs.Finds.{byStem, byWhole, liveStem, liveWhole}
 use Rattle.listing.specs.Walks.{firstThat, isDeleted}
 
-module _ (image : List ℕ) (left : ℕ) (given field : List ℕ) (e : field ≡ nameField given) where
+module _ (bytes : List ℕ) (left : ℕ) (given field : List ℕ) (e : field ≡ nameField given) where
   same-characters : characters field ≡ characters given
   same-characters = ap characters e ∙ characters-field given
 
-  pub whole-found : isWhole given ≡ true → firstThat (liveWhole field) image 3 (left - 3) ≡ byWhole image left given
+  pub whole-found : isWhole given ≡ true → firstThat (liveWhole field) bytes 3 (left - 3) ≡ byWhole bytes left given
   whole-found t =
-      ap (λ cs. firstThat (λ bytes. not (isDeleted bytes) && sameBytes cs (characters (nameOf bytes))) image 3 (left - 3)) same-characters
-      ∙ sym (ap (λ b. cond b (firstThat (liveWhole given) image 3 (left - 3)) None) t)
+      ap (λ cs. firstThat (λ bytes. not (isDeleted bytes) && sameBytes cs (characters (nameOf bytes))) bytes 3 (left - 3)) same-characters
+      ∙ sym (ap (λ b. cond b (firstThat (liveWhole given) bytes 3 (left - 3)) None) t)
 
-  pub stem-found : isStem given ≡ true → firstThat (liveStem field) image 3 (left - 3) ≡ byStem image left given
+  pub stem-found : isStem given ≡ true → firstThat (liveStem field) bytes 3 (left - 3) ≡ byStem bytes left given
   stem-found t =
-      ap (λ cs. firstThat (λ bytes. not (isDeleted bytes) && sameBytes cs (characters (beforeLast (characters (nameOf bytes))))) image 3 (left - 3)) same-characters
-      ∙ sym (ap (λ b. cond b (firstThat (liveStem given) image 3 (left - 3)) None) t)
+      ap (λ cs. firstThat (λ bytes. not (isDeleted bytes) && sameBytes cs (characters (beforeLast (characters (nameOf bytes))))) bytes 3 (left - 3)) same-characters
+      ∙ sym (ap (λ b. cond b (firstThat (liveStem given) bytes 3 (left - 3)) None) t)

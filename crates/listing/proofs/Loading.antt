@@ -1,6 +1,6 @@
 -- The directory read block by block, one block on and at the end, and how long it is. Assumes nothing.
 use mathlib.Core.Path.{_≡_, refl, sym, ap, _∙_}
-use mathlib.Core.Bool.{Bool, true, false, _&&_, cond}
+use mathlib.Core.Bool.{Bool, true, false, cond}
 use mathlib.Core.List.{List, [], _++_}
 use Prim.Native.Nat.{ℕ, zero, suc, _+_, _-_, _*_, _<_, _≤_}
 use native.Mathlib.Omega.{arith}
@@ -19,8 +19,8 @@ use Rattle.blocks.specs.Devices.{Device, blockAt, inRange, markAt, markFault, r
 use Rattle.blocks.specs.declared.faults.Fault.{Fault}
 use Rattle.blocks.specs.declared.faults.Fault.the-variants.{OutOfRange}
 use Rattle.entry.specs.Fields.{checkBytes, checkOf, directoryOf}
-use Rattle.listing.specs.Loads.{Appends, Extends, Loads, Read, counted, loaded, more, readBlock, then, unless, volumeHolds, volumeLoaded}
-use Rattle.listing.specs.Walks.{imageEntry}
+use Rattle.listing.specs.Loads.{Appends, Extends, Loads, counted, loaded, more, readBlock, then, unless, volumeHolds, volumeLoaded}
+use Rattle.listing.specs.Walks.{entryAt}
 use Rattle.listing.specs.declared.failure.Failure.{Failure}
 use Rattle.listing.specs.declared.failure.Failure.the-variants.{Memory, Refused}
 
@@ -98,9 +98,9 @@ module _ (d : Device) (least : 2 ≤ sizeOf d) where
   loaded-ends (Refused refusal) xs ys a = ap (λ o. then o (volumeLoaded d)) a ∙ sym begun
 
 -- the directory that the volume's entry names
-pub volume-read : (d : Device) (xs ys : List ℕ) (blocks : ℕ) → volumeHolds (sizeOf d) (imageEntry xs 0) ≡ true → blocks ≡ directoryOf (imageEntry xs 0)
+pub volume-read : (d : Device) (xs ys : List ℕ) (blocks : ℕ) → volumeHolds (sizeOf d) (entryAt xs 0) ≡ true → blocks ≡ directoryOf (entryAt xs 0)
     → Ok ys ≡ more d 2 (blocks - 1) xs → Ok (record { bytes = ys; blocks = blocks }) ≡ volumeLoaded d xs
 volume-read d xs ys blocks holds e m =
     ap (counted blocks) m
     ∙ ap (λ n. counted n (more d 2 (n - 1) xs)) e
-    ∙ sym (ap (λ t. cond t (counted (directoryOf (imageEntry xs 0)) (more d 2 (directoryOf (imageEntry xs 0) - 1) xs)) (Err (BrokenLayout 0))) holds)
+    ∙ sym (ap (λ t. cond t (counted (directoryOf (entryAt xs 0)) (more d 2 (directoryOf (entryAt xs 0) - 1) xs)) (Err (BrokenLayout 0))) holds)

@@ -4,7 +4,7 @@
 --   catalogueText  what it prints where the directory was walked
 --   catalogued     the catalogue of the pack on a device, or why there is none
 use mathlib.Core.Bool.{Bool, cond}
-use mathlib.Core.List.{List, [], _∷_, _++_}
+use mathlib.Core.List.{List, [], _++_}
 use Prim.Native.Nat.{ℕ, zero, suc, _+_, _-_}
 use lib.Chars.{codes}
 use Rattle.std.specs.Written.{decimal}
@@ -21,16 +21,16 @@ use Rattle.entry.specs.declared.stamp.Stamp.{Stamp}
 use Rattle.lines.specs.Rows.{dateText, headings, rowText}
 use Rattle.lines.specs.Texts.{counted, escaped}
 use Rattle.listing.specs.Loads.{loaded, then}
-use Rattle.listing.specs.Walks.{directoryWalked, imageEntry, isDeleted}
+use Rattle.listing.specs.Walks.{directoryWalked, entryAt, isDeleted}
 use Rattle.listing.specs.declared.walk.Found.{Found}
 
 abbrev pub countThat : (List ℕ → Bool) → List ℕ → ℕ → ℕ → ℕ
-countThat test image e zero = 0
-countThat test image e (suc count) = cond (test (imageEntry image e)) 1 0 + countThat test image (e + 1) count
+countThat test bytes e zero = 0
+countThat test bytes e (suc count) = cond (test (entryAt bytes e)) 1 0 + countThat test bytes (e + 1) count
 
 abbrev pub rowsText : List ℕ → ℕ → ℕ → List ℕ
-rowsText image e zero = []
-rowsText image e (suc count) = rowText e (imageEntry image e) ++ (codes "\n" ++ rowsText image (e + 1) count)
+rowsText bytes e zero = []
+rowsText bytes e (suc count) = rowText e (entryAt bytes e) ++ (codes "\n" ++ rowsText bytes (e + 1) count)
 
 abbrev pub datedText : Option Stamp → List ℕ
 datedText None = codes "no date"
@@ -51,17 +51,17 @@ summary directory files deleted =
     codes "Read " ++ (directory ++ (codes " and found " ++ (files ++ (codes ", " ++ (decimal deleted ++ codes " of them deleted.")))))
 
 abbrev pub summaryText : List ℕ → Found → List ℕ
-summaryText image found =
-    summary (counted (found .directory) (codes "directory block")) (counted (found .left - 3) (codes "file")) (countThat isDeleted image 3 (found .left - 3))
+summaryText bytes found =
+    summary (counted (found .directory) (codes "directory block")) (counted (found .left - 3) (codes "file")) (countThat isDeleted bytes 3 (found .left - 3))
 
 abbrev pub page : List ℕ → List ℕ → List ℕ → List ℕ → List ℕ
 page volume rows left done =
     volume ++ (codes "\n" ++ (headings ++ (codes "\n" ++ (rows ++ (left ++ (codes "\n" ++ (done ++ codes "\n")))))))
 
 abbrev pub catalogueText : List ℕ → Found → List ℕ
-catalogueText image found =
-    page (volumeText (found .directory) (imageEntry image 0)) (rowsText image 3 (found .left - 3))
-    (leftText (imageEntry image (found .left))) (summaryText image found)
+catalogueText bytes found =
+    page (volumeText (found .directory) (entryAt bytes 0)) (rowsText bytes 3 (found .left - 3))
+    (leftText (entryAt bytes (found .left))) (summaryText bytes found)
 
 abbrev pub printed : (Found → List ℕ) → Result Found Refusal → Result (List ℕ) Refusal
 printed text (Ok found) = Ok (text found)

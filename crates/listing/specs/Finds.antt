@@ -17,7 +17,7 @@ use Rattle.names.specs.Names.{fitsStem, fitsWhole, isStem, isWhole}
 use Rattle.entry.specs.Fields.{nameOf}
 use Rattle.lines.specs.Rows.{rowText}
 use Rattle.listing.specs.Loads.{loaded, then}
-use Rattle.listing.specs.Walks.{directoryWalked, firstThat, imageEntry, isDeleted}
+use Rattle.listing.specs.Walks.{directoryWalked, firstThat, entryAt, isDeleted}
 use Rattle.listing.specs.declared.finds.Fit.{Fit}
 use Rattle.listing.specs.declared.finds.Fit.the-variants.{Whole, Stem}
 use Rattle.listing.specs.declared.finds.Match.{Match}
@@ -30,10 +30,10 @@ abbrev pub liveStem : List ℕ → List ℕ → Bool
 liveStem stem bytes = not (isDeleted bytes) && fitsStem stem (nameOf bytes)
 
 abbrev pub byWhole : List ℕ → ℕ → List ℕ → Option ℕ
-byWhole image left given = cond (isWhole given) (firstThat (liveWhole given) image 3 (left - 3)) None
+byWhole bytes left given = cond (isWhole given) (firstThat (liveWhole given) bytes 3 (left - 3)) None
 
 abbrev pub byStem : List ℕ → ℕ → List ℕ → Option ℕ
-byStem image left given = cond (isStem given) (firstThat (liveStem given) image 3 (left - 3)) None
+byStem bytes left given = cond (isStem given) (firstThat (liveStem given) bytes 3 (left - 3)) None
 
 abbrev pub wholeFirst : Option ℕ → Option ℕ → Result Match Refusal
 wholeFirst (Some e) stem = Ok (record { number = e; fit = Whole })
@@ -41,19 +41,19 @@ wholeFirst None (Some e) = Ok (record { number = e; fit = Stem })
 wholeFirst None None = Err NoSuchFile
 
 abbrev pub lookedUp : List ℕ → ℕ → List ℕ → Result Match Refusal
-lookedUp image left given = cond (isWhole given || isStem given) (wholeFirst (byWhole image left given) (byStem image left given)) (Err BadName)
+lookedUp bytes left given = cond (isWhole given || isStem given) (wholeFirst (byWhole bytes left given) (byStem bytes left given)) (Err BadName)
 
 abbrev pub fitText : Fit → List ℕ
 fitText Whole = codes "Found by its whole name."
 fitText Stem = codes "Found by its stem; no live file has that whole name."
 
 abbrev pub matchText : List ℕ → Result Match Refusal → Result (List ℕ) Refusal
-matchText image (Ok m) = Ok (rowText (m .number) (imageEntry image (m .number)) ++ (codes "\n" ++ (fitText (m .fit) ++ codes "\n")))
-matchText image (Err refusal) = Err refusal
+matchText bytes (Ok m) = Ok (rowText (m .number) (entryAt bytes (m .number)) ++ (codes "\n" ++ (fitText (m .fit) ++ codes "\n")))
+matchText bytes (Err refusal) = Err refusal
 
 abbrev pub found : List ℕ → List ℕ → Result Found Refusal → Result (List ℕ) Refusal
-found image given (Ok walk) = matchText image (lookedUp image (walk .left) given)
-found image given (Err refusal) = Err refusal
+found bytes given (Ok walk) = matchText bytes (lookedUp bytes (walk .left) given)
+found bytes given (Err refusal) = Err refusal
 
 abbrev pub foundText : Device → List ℕ → Result (List ℕ) Refusal
 foundText d given = then (loaded d) (λ read. found (read .bytes) given (directoryWalked (read .bytes) (read .blocks)))

@@ -21,7 +21,7 @@ use Rattle.refusal.specs.declared.Refusal.the-variants.{BrokenLayout}
 use Rattle.blocks.specs.Devices.{Device, blockAt, readFault, refusalOf, sizeOf}
 use Rattle.blocks.specs.declared.faults.Fault.{Fault}
 use Rattle.entry.specs.Fields.{checkBytes, checkOf, directoryOf, sizeOf as volumeSize}
-use Rattle.listing.specs.Walks.{imageEntry}
+use Rattle.listing.specs.Walks.{entryAt}
 use Rattle.listing.specs.declared.failure.Failure.{Failure}
 use Rattle.listing.specs.declared.failure.Failure.the-variants.{Memory, Refused}
 use Rattle.listing.specs.declared.load.Directory.{Directory}
@@ -61,8 +61,8 @@ counted blocks (Err refusal) = Err refusal
 -- The volume's entry is tested before the second directory block is read.
 abbrev pub volumeLoaded : Device → List ℕ → Result Read Refusal
 volumeLoaded d bytes =
-    let blocks = directoryOf (imageEntry bytes 0) in
-    cond (volumeHolds (sizeOf d) (imageEntry bytes 0)) (counted blocks (more d 2 (blocks - 1) bytes)) (Err (BrokenLayout 0))
+    let blocks = directoryOf (entryAt bytes 0) in
+    cond (volumeHolds (sizeOf d) (entryAt bytes 0)) (counted blocks (more d 2 (blocks - 1) bytes)) (Err (BrokenLayout 0))
 
 -- A device of one block has no directory, and nothing of it is read.
 abbrev pub loaded : Device → Result Read Refusal

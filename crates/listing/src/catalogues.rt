@@ -1,6 +1,6 @@
 // The catalogue of a pack: its volume, its files, and the blocks that are left.
 ghost use mathlib.Core.Path.{_≡_};
-ghost use Prim.Native.Nat.{_+_, _-_, _*_, _/_, _<_, _≤_};
+ghost use Prim.Native.Nat.{_+_, _-_, _*_, _/_, _≤_};
 ghost use lib.ListN.{length};
 ghost use Rattle.listing.specs.Catalogues.{catalogueText, catalogued, countThat, datedText, leftText, page as pageOf, rowsText, summary as summaryOf, summaryText, volumeText};
 ghost use Rattle.listing.specs.Answered.{Answers};
@@ -28,13 +28,13 @@ use std::alloc::AllocError;
 use std::alloc::Global;
 
 // The lines of the files from entry `from` up to `to`.
-fn rows(heap: Global, image: &[u8], from: u32, to: u32) -> Result<String, AllocError>
-    requires { ⌜ 1024 * (1 + (to - 1) / 39) ≤ length (now image) ⌝ }
-    ensures { λ r. ⌜ made r (λ t. string-bytes t ≡ rowsText (now (image .entry)) from (to - from)) ⌝ }
+fn rows(heap: Global, bytes: &[u8], from: u32, to: u32) -> Result<String, AllocError>
+    requires { ⌜ 1024 * (1 + (to - 1) / 39) ≤ length (now bytes) ⌝ }
+    ensures { λ r. ⌜ made r (λ t. string-bytes t ≡ rowsText (now (bytes .entry)) from (to - from)) ⌝ }
 {
     let mut out = String::new(heap);
     for number in from..to {
-        let line = row(heap, number, &entry_at(image, number))?;
+        let line = row(heap, number, &entry_at(bytes, number))?;
         out.push_str(line.as_str())?;
         out.push_str("\n")?;
     }
@@ -42,13 +42,13 @@ fn rows(heap: Global, image: &[u8], from: u32, to: u32) -> Result<String, AllocE
 }
 
 // How many of the files from entry `from` up to `to` are deleted.
-fn count_deleted(image: &[u8], from: u32, to: u32) -> u32
-    requires { ⌜ 1024 * (1 + (to - 1) / 39) ≤ length (now image) ⌝ }
-    ensures { λ r. ⌜ r ≡ countThat isDeleted (now (image .entry)) from (to - from) ⌝ }
+fn count_deleted(bytes: &[u8], from: u32, to: u32) -> u32
+    requires { ⌜ 1024 * (1 + (to - 1) / 39) ≤ length (now bytes) ⌝ }
+    ensures { λ r. ⌜ r ≡ countThat isDeleted (now (bytes .entry)) from (to - from) ⌝ }
 {
     let mut count = 0;
     for number in from..to {
-        if entry_at(image, number).attributes().has(Attribute::Deleted) {
+        if entry_at(bytes, number).attributes().has(Attribute::Deleted) {
             count += 1;
         }
     }
@@ -95,13 +95,13 @@ fn summary(heap: Global, directory: &str, files: &str, deleted: u32) -> Result<S
     )
 }
 
-fn summary_text(heap: Global, image: &[u8], found: Found) -> Result<String, AllocError>
-    requires { ⌜ Covers found (now image) ⌝ }
-    ensures { λ r. ⌜ made r (λ t. string-bytes t ≡ summaryText (now (image .entry)) found) ⌝ }
+fn summary_text(heap: Global, bytes: &[u8], found: Found) -> Result<String, AllocError>
+    requires { ⌜ Covers found (now bytes) ⌝ }
+    ensures { λ r. ⌜ made r (λ t. string-bytes t ≡ summaryText (now (bytes .entry)) found) ⌝ }
 {
     let directory = counted(heap, found.directory, "directory block")?;
     let files = counted(heap, found.left - 3, "file")?;
-    let deleted = count_deleted(image, 3, found.left);
+    let deleted = count_deleted(bytes, 3, found.left);
     summary(heap, directory.as_str(), files.as_str(), deleted)
 }
 
@@ -119,14 +119,14 @@ fn page(
     format!(heap, "{volume}\n{headings}\n{rows}{left}\n{done}\n")
 }
 
-fn catalogue_text(heap: Global, image: &[u8], found: Found) -> Result<String, AllocError>
-    requires { ⌜ Covers found (now image) ⌝ }
-    ensures { λ r. ⌜ made r (λ t. string-bytes t ≡ catalogueText (now (image .entry)) found) ⌝ }
+fn catalogue_text(heap: Global, bytes: &[u8], found: Found) -> Result<String, AllocError>
+    requires { ⌜ Covers found (now bytes) ⌝ }
+    ensures { λ r. ⌜ made r (λ t. string-bytes t ≡ catalogueText (now (bytes .entry)) found) ⌝ }
 {
-    let volume = volume_text(heap, found.directory, &entry_at(image, 0))?;
-    let rows = rows(heap, image, 3, found.left)?;
-    let left = left_text(heap, &entry_at(image, found.left))?;
-    let done = summary_text(heap, image, found)?;
+    let volume = volume_text(heap, found.directory, &entry_at(bytes, 0))?;
+    let rows = rows(heap, bytes, 3, found.left)?;
+    let left = left_text(heap, &entry_at(bytes, found.left))?;
+    let done = summary_text(heap, bytes, found)?;
     page(
         heap,
         volume.as_str(),

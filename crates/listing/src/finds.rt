@@ -66,45 +66,45 @@ pub(crate) struct Match {
 }
 
 // The first live file before entry `left` that the name fits as a whole name.
-fn by_whole(image: &[u8], left: u32, given: &[u8]) -> Option<u32>
-    requires { ⌜ 1024 * (1 + (left - 1) / 39) ≤ length (now image) ⌝ }
-    ensures value { λ r. ⌜ r ≡ byWhole (now (image .entry)) left (now (given .entry)) ⌝ }
+fn by_whole(bytes: &[u8], left: u32, given: &[u8]) -> Option<u32>
+    requires { ⌜ 1024 * (1 + (left - 1) / 39) ≤ length (now bytes) ⌝ }
+    ensures value { λ r. ⌜ r ≡ byWhole (now (bytes .entry)) left (now (given .entry)) ⌝ }
     ensures before { λ r. ⌜ Cases r (Unit {0}) (λ e. e < left) ⌝ }
 {
     let Ok(name) = WholeName::new(given) else {
         return None;
     };
-    first(image, &LiveWhole { name }, 3, left)
+    first(bytes, &LiveWhole { name }, 3, left)
 }
 
 // The first live file before entry `left` that the name fits as a stem.
-fn by_stem(image: &[u8], left: u32, given: &[u8]) -> Option<u32>
-    requires { ⌜ 1024 * (1 + (left - 1) / 39) ≤ length (now image) ⌝ }
-    ensures value { λ r. ⌜ r ≡ byStem (now (image .entry)) left (now (given .entry)) ⌝ }
+fn by_stem(bytes: &[u8], left: u32, given: &[u8]) -> Option<u32>
+    requires { ⌜ 1024 * (1 + (left - 1) / 39) ≤ length (now bytes) ⌝ }
+    ensures value { λ r. ⌜ r ≡ byStem (now (bytes .entry)) left (now (given .entry)) ⌝ }
     ensures before { λ r. ⌜ Cases r (Unit {0}) (λ e. e < left) ⌝ }
 {
     let Ok(stem) = Stem::new(given) else {
         return None;
     };
-    first(image, &LiveStem { stem }, 3, left)
+    first(bytes, &LiveStem { stem }, 3, left)
 }
 
 // The file by its whole name or, where none fits, by its stem: the name without its type letter.
-fn look_up(image: &[u8], left: u32, given: &[u8]) -> Result<Match, Refusal>
-    requires { ⌜ 1024 * (1 + (left - 1) / 39) ≤ length (now image) ⌝ }
-    ensures value { λ r. ⌜ r ≡ lookedUp (now (image .entry)) left (now (given .entry)) ⌝ }
+fn look_up(bytes: &[u8], left: u32, given: &[u8]) -> Result<Match, Refusal>
+    requires { ⌜ 1024 * (1 + (left - 1) / 39) ≤ length (now bytes) ⌝ }
+    ensures value { λ r. ⌜ r ≡ lookedUp (now (bytes .entry)) left (now (given .entry)) ⌝ }
     ensures before { λ r. ⌜ made r (λ m. m .number < left) ⌝ }
 {
     if WholeName::new(given).is_err() && Stem::new(given).is_err() {
         return Err(Refusal::BadName);
     }
-    if let Some(number) = by_whole(image, left, given) {
+    if let Some(number) = by_whole(bytes, left, given) {
         return Ok(Match {
             number,
             fit: Fit::Whole,
         });
     }
-    let Some(number) = by_stem(image, left, given) else {
+    let Some(number) = by_stem(bytes, left, given) else {
         return Err(Refusal::NoSuchFile);
     };
     Ok(Match {
@@ -123,12 +123,12 @@ fn fit_text(fit: Fit) -> &'static str
 }
 
 // The line of the file that a name finds, and by what it was found.
-fn match_text(heap: Global, image: &[u8], left: u32, given: &[u8]) -> Result<String, Failure>
-    requires { ⌜ 1024 * (1 + (left - 1) / 39) ≤ length (now image) ⌝ }
-    ensures { λ r. ⌜ Answers r (matchText (now (image .entry)) (lookedUp (now (image .entry)) left (now (given .entry)))) ⌝ }
+fn match_text(heap: Global, bytes: &[u8], left: u32, given: &[u8]) -> Result<String, Failure>
+    requires { ⌜ 1024 * (1 + (left - 1) / 39) ≤ length (now bytes) ⌝ }
+    ensures { λ r. ⌜ Answers r (matchText (now (bytes .entry)) (lookedUp (now (bytes .entry)) left (now (given .entry)))) ⌝ }
 {
-    let hit = look_up(image, left, given)?;
-    let line = row(heap, hit.number, &entry_at(image, hit.number))?;
+    let hit = look_up(bytes, left, given)?;
+    let line = row(heap, hit.number, &entry_at(bytes, hit.number))?;
     let fit = fit_text(hit.fit);
     Ok(format!(heap, "{line}\n{fit}\n")?)
 }

@@ -5,7 +5,7 @@ ghost use mathlib.Core.Path.{_≡_};
 ghost use Prim.Native.Nat.{ℕ, _+_, _-_, _*_, _/_, _<_, _≤_};
 ghost use denote.Ref.{now};
 ghost use lib.ListN.{length};
-ghost use Rattle.listing.specs.Walks.{Covers, directoryWalked, firstThat, imageEntry, isLeft, isUnreadable};
+ghost use Rattle.listing.specs.Walks.{Covers, directoryWalked, firstThat, entryAt, isLeft, isUnreadable};
 ghost use Rattle.std.specs.Options.{Cases};
 ghost use Rattle.std.specs.Vec.{made};
 use entry::Attribute;
@@ -15,12 +15,12 @@ use entry::Entry;
 use refusal::Refusal;
 
 // The entry of that number, in bytes that hold its block.
-pub(crate) fn entry_at(image: &[u8], number: u32) -> Entry
-    requires { ⌜ 1024 * (1 + number / 39) ≤ length (now image) ⌝ }
-    ensures { λ r. ⌜ r .bytes ≡ imageEntry (now (image .entry)) number ⌝ }
+pub(crate) fn entry_at(bytes: &[u8], number: u32) -> Entry
+    requires { ⌜ 1024 * (1 + number / 39) ≤ length (now bytes) ⌝ }
+    ensures { λ r. ⌜ r .bytes ≡ entryAt (now (bytes .entry)) number ⌝ }
 {
     let at = BLOCK * (number / ENTRIES) as usize;
-    let Some(block) = image[at..at + BLOCK].first_chunk::<BLOCK>() else {
+    let Some(block) = bytes[at..at + BLOCK].first_chunk::<BLOCK>() else {
         unreachable()
     };
     Entry::from_block(block, number)
@@ -35,13 +35,13 @@ pub(crate) trait Test {
 }
 
 // The first entry from `from` up to `to` that passes a test.
-pub(crate) fn first<T: Test>(image: &[u8], test: &T, from: u32, to: u32) -> Option<u32>
-    requires { ⌜ 1024 * (1 + (to - 1) / 39) ≤ length (now image) ⌝ }
-    ensures value { λ r. ⌜ r ≡ firstThat (T·Test .passes (now (test .entry))) (now (image .entry)) from (to - from) ⌝ }
+pub(crate) fn first<T: Test>(bytes: &[u8], test: &T, from: u32, to: u32) -> Option<u32>
+    requires { ⌜ 1024 * (1 + (to - 1) / 39) ≤ length (now bytes) ⌝ }
+    ensures value { λ r. ⌜ r ≡ firstThat (T·Test .passes (now (test .entry))) (now (bytes .entry)) from (to - from) ⌝ }
     ensures between { λ r. ⌜ Cases r (Unit {0}) (λ e. (from ≤ e) × (e < to)) ⌝ }
 {
     for number in from..to {
-        if test.test(&entry_at(image, number)) {
+        if test.test(&entry_at(bytes, number)) {
             return Some(number);
         }
     }
@@ -78,18 +78,18 @@ pub(crate) struct Found {
 }
 
 // Walks a directory of so many blocks: it ends at the BLOCKS LEFT entry, and every live file before that has a length.
-pub(crate) fn walk_directory(image: &[u8], directory: u32) -> Result<Found, Refusal>
-    requires within { ⌜ 1024 * directory ≤ length (now image) ⌝ }
+pub(crate) fn walk_directory(bytes: &[u8], directory: u32) -> Result<Found, Refusal>
+    requires within { ⌜ 1024 * directory ≤ length (now bytes) ⌝ }
     requires some { ⌜ 1 ≤ directory ⌝ }
     requires few { ⌜ directory < 128 ⌝ }
-    ensures value { λ r. ⌜ r ≡ directoryWalked (now (image .entry)) directory ⌝ }
-    ensures covers { λ r. ⌜ made r (λ found. Covers found (now (image .entry))) ⌝ }
+    ensures value { λ r. ⌜ r ≡ directoryWalked (now (bytes .entry)) directory ⌝ }
+    ensures covers { λ r. ⌜ made r (λ found. Covers found (now (bytes .entry))) ⌝ }
 {
     let end = ENTRIES * directory;
-    let Some(left) = first(image, &BlocksLeft, 3, end) else {
+    let Some(left) = first(bytes, &BlocksLeft, 3, end) else {
         return Err(Refusal::BrokenLayout { entry: end as u16 });
     };
-    match first(image, &Unreadable, 3, left) {
+    match first(bytes, &Unreadable, 3, left) {
         None => Ok(Found { directory, left }),
         Some(entry) => Err(Refusal::BrokenLayout {
             entry: entry as u16,

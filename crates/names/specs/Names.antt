@@ -7,7 +7,7 @@
 --   nameField    the twelve bytes that hold a name: its characters, ETX, zeros
 --   fitsWhole    a whole name fits an entry with this name field
 --   fitsStem     a stem fits an entry with this name field
-use mathlib.Core.Bool.{Bool, true, false, not, _&&_, _||_, cond}
+use mathlib.Core.Bool.{Bool, true, not, _&&_, _||_, cond}
 use mathlib.Core.List.{List, [], _∷_, _++_}
 use Prim.Native.Nat.{ℕ, _-_}
 use lib.Chars.{codes}

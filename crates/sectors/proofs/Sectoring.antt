@@ -3,26 +3,24 @@ use mathlib.Core.Path.{_≡_, refl, sym, ap, ap₂, subst, _∙_}
 use mathlib.Core.Bool.{Bool, true, false, _&&_, cond}
 use mathlib.Core.List.{List, [], _∷_, _++_, append-nil, map}
 use mathlib.Core.Logic.{_⊎_, inl, inr, ⊎-elim}
-use Prim.Native.Nat.{ℕ, zero, suc, min, _+_, _-_, _*_, _/_, _%_, _<_, _≤_}
+use Prim.Native.Nat.{ℕ, zero, suc, _+_, _-_, _*_, _/_, _%_, _<_, _≤_}
 use native.Mathlib.Omega.{arith}
 use lib.Dec.{eqb, lit<, lit≤, ltb}
 use lib.ListN.{length, getD, set, take, drop}
 use lib.Seq.{take-add}
 use Rattle.std.specs.Iters.{counting}
 use Rattle.std.specs.shelf.Lists.{joined}
-use Rattle.std.proofs.shelf.Lists.{append-assoc, drop-all, drop-at, drop-drop, drop-more, getD-append-left, getD-append-right, getD-drop, getD-past, getD-take, length-append, length-drop, length-take, same-lists, take-all, take-append-drop, take-at, take-more}
+use Rattle.std.proofs.shelf.Lists.{drop-all, drop-at, drop-drop, getD-append-left, getD-append-right, getD-drop, getD-past, getD-take, length-append, length-drop, length-take, take-all, take-append-drop, take-at, take-more}
 use Rattle.std.proofs.shelf.Tests.{and-parts, cases-lt, cases-order, eqb-true, ltb-true}
 use Rattle.std.specs.declared.option.Option.the-variants.{Some, None}
-use Rattle.std.specs.declared.result.Result.the-variants.{Ok, Err}
-use Rattle.blocks.specs.Devices.{Device, ShallowMark, ShallowTab, blockAt, inRange, markAt, markFault, outcome, readFault, readOut, sizeOf, tabFault, writeFault, written}
-use Rattle.blocks.specs.Images.{numbered, stored, tabOf, tabulated}
-use Rattle.blocks.specs.declared.faults.Fault.the-variants.{OutOfRange, BadBlock}
-use Rattle.blocks.specs.declared.faults.Mark.{Mark}
+use Rattle.blocks.specs.Devices.{ShallowMark, ShallowTab, blockAt, inRange, markAt, markFault, readFault, sizeOf, tabFault, writeFault, written}
+use Rattle.blocks.specs.Images.{stored, tabOf, tabulated}
+use Rattle.blocks.specs.declared.faults.Fault.the-variants.{OutOfRange}
 use Rattle.blocks.specs.declared.faults.Mark.the-variants.{Sound, Bad}
-use Rattle.blocks.proofs.Imaging.{length-stored, part-aside, part-itself, stored-before, stored-behind, stored-small, stored-within, tab-shallow}
+use Rattle.blocks.proofs.Imaging.{length-stored, part-aside, part-itself, stored-before, stored-behind, stored-small, tab-shallow}
 use Rattle.blocks.proofs.Tables.{getD-tabulated, length-tabulated, tabulated-past, tabulated-same, tabulated-set}
-use Rattle.sectors.specs.Disks.{blockCount, diskBlock, diskMark, diskOf, encodedDisk, isDisk, isGood, recordCount, sectorBytes, sectorIn, sectorOf, startOf, statusAt, statuses, stepBack}
-use Rattle.sectors.specs.Interleave.{Interleaves, recordOf, sectorCount, stepSize, trackCount}
+use Rattle.sectors.specs.Disks.{blockCount, diskBlock, diskMark, diskOf, encodedDisk, isDisk, isGood, recordCount, sectorBytes, sectorIn, sectorOf, startOf, statuses, stepBack}
+use Rattle.sectors.specs.Interleave.{recordOf, sectorCount, stepSize, trackCount}
 use Rattle.sectors.proofs.Records.{disk-interleaves, inside, undone}
 
 pub disk-length : (xs : List ℕ) → isDisk xs ≡ true → length xs ≡ 513 * recordCount

@@ -1,9 +1,8 @@
-use mathlib.Core.Path.{refl, ap, subst, _≡_, _∙_}
+use mathlib.Core.Path.{refl, ap, _∙_}
 use mathlib.Core.List.{_∷_, []}
-use Prim.Native.Nat.{ℕ, _/_, _%_, _<_}
+use Prim.Native.Nat.{_/_, _%_, _<_}
 use native.Mathlib.Omega.{arith}
 use Rattle.std.proofs.shelf.Parts.{pushed}
-use Rattle.lines.specs.Texts.{hexDigit}
 use Rattle.lines.proofs.Pieces.{hexed, hex-ascii}
 use Rattle.lines.proofs.texts.push_hex.Needs as need
 

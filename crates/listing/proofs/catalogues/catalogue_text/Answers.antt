@@ -5,7 +5,7 @@ use Rattle.listing.proofs.catalogues.catalogue_text.Needs as need
 
 pub returns : need.returns
 returns c =
-    text-is (c .page .result) _ (catalogueText (c .args .image .now) (c .args .found))
+    text-is (c .page .result) _ (catalogueText (c .args .bytes .now) (c .args .found))
     (page-is
     (c .as-str .ensures .value ∙ c .in-Continue-volume .ensures tt ∙ ap (volumeText (c .args .found .directory)) (c .entry-at .ensures))
     (c .as-str-2 .ensures .value ∙ c .in-Continue-rows .ensures tt)

@@ -7,5 +7,5 @@ use Rattle.listing.proofs.catalogues.count_deleted.Given as given
 -- what is counted and what is left to count are the whole
 abbrev pub Inv-loop-number : given.InvT-loop-number
 Inv-loop-number l =
-    (l .count + countThat isDeleted (l .image) (l .number) (l .to - l .number) ≡ countThat isDeleted (l .image) (l .from) (l .to - l .from))
+    (l .count + countThat isDeleted (l .bytes) (l .number) (l .to - l .number) ≡ countThat isDeleted (l .bytes) (l .from) (l .to - l .from))
     × (l .count ≤ l .number)

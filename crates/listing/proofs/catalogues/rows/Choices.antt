@@ -8,4 +8,4 @@ use Rattle.listing.proofs.catalogues.rows.Given as given
 -- what is written and what is left to write are the whole
 abbrev pub Inv-loop-number : given.InvT-loop-number
 Inv-loop-number l =
-    string-bytes (l .out) ++ rowsText (l .image) (l .number) (l .to - l .number) ≡ rowsText (l .image) (l .from) (l .to - l .from)
+    string-bytes (l .out) ++ rowsText (l .bytes) (l .number) (l .to - l .number) ≡ rowsText (l .bytes) (l .from) (l .to - l .from)

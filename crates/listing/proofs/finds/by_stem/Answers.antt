@@ -7,6 +7,6 @@ pub returns : need.returns
 returns c = record {
   value =
       c .first .ensures .value
-      ∙ stem-found (c .args .image .now) (c .args .left) (c .args .given .now) (c .in-Ok .stem .field) (c .in-Ok .ensures tt .1) (c .in-Ok .ensures tt .0);
+      ∙ stem-found (c .args .bytes .now) (c .args .left) (c .args .given .now) (c .in-Ok .stem .field) (c .in-Ok .ensures tt .1) (c .in-Ok .ensures tt .0);
   before = search needs;
 }

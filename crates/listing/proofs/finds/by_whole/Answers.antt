@@ -7,6 +7,6 @@ pub returns : need.returns
 returns c = record {
   value =
       c .first .ensures .value
-      ∙ whole-found (c .args .image .now) (c .args .left) (c .args .given .now) (c .in-Ok .name .field) (c .in-Ok .ensures tt .1) (c .in-Ok .ensures tt .0);
+      ∙ whole-found (c .args .bytes .now) (c .args .left) (c .args .given .now) (c .in-Ok .name .field) (c .in-Ok .ensures tt .1) (c .in-Ok .ensures tt .0);
   before = search needs;
 }

@@ -1,5 +1,4 @@
-use mathlib.Core.Path.{ap, subst, _∙_}
-use mathlib.Core.List.{[]}
+use mathlib.Core.Path.{ap, subst}
 use native.Mathlib.Omega.{arith}
 use lib.ListN.{length}
 use Rattle.std.specs.Of.Vec.{vec-items}

@@ -12,4 +12,4 @@ returns c =
     let size : at + 1024 - at ≡ 1024 = omega arith in
     c .from-block .ensures
     ∙ ap (part (26 * (c .args .number % 39)) 26)
-    (whole-block (at + 1024 - at) 1024 (drop at (c .args .image .now)) (c .in-Some .block .now) size (c .in-Some .ensures tt .cases .same))
+    (whole-block (at + 1024 - at) 1024 (drop at (c .args .bytes .now)) (c .in-Some .block .now) size (c .in-Some .ensures tt .cases .same))
