@@ -1,4 +1,6 @@
 // Block devices: what one means, the interface, and the devices and layers that need no disk.
+#![tactic(auto)]
+
 mod device;
 mod faults;
 mod images;

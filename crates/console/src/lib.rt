@@ -1,4 +1,6 @@
 // The console of a pack unit: what a line of input asks for, and the line that is printed of a reply.
+#![tactic(auto)]
+
 mod calls;
 mod fields;
 mod forms;

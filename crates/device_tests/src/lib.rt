@@ -1,4 +1,6 @@
 // Examples of what devices and layers answer, in a crate of their own so that the libraries are proved once.
+#![tactic(auto)]
+
 #[cfg(test)]
 mod disk_tests;
 #[cfg(test)]

@@ -1,4 +1,6 @@
 // The directory of a pack, on any block device.
+#![tactic(auto)]
+
 mod entries;
 mod judgement;
 mod keys;

@@ -1,4 +1,6 @@
 // Examples of what the directory's functions answer, in a crate of their own so that the library is proved once.
+#![tactic(auto)]
+
 #[cfg(test)]
 mod entry_tests;
 #[cfg(test)]

@@ -1,4 +1,6 @@
 // The 26-byte entry of the directory: its fields, its kind, lengths and dates.
+#![tactic(auto)]
+
 mod attributes;
 mod date;
 mod edits;

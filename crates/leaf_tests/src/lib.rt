@@ -1,4 +1,6 @@
 // Examples of the leaves' rules, in a crate of their own so that the leaves are proved once.
+#![tactic(auto)]
+
 #[cfg(test)]
 mod dates;
 #[cfg(test)]

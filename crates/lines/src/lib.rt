@@ -1,4 +1,6 @@
 // The lines that are printed of directory entries.
+#![tactic(auto)]
+
 mod files;
 mod texts;
 

@@ -1,4 +1,6 @@
 // What the program's commands print of a pack on any block device.
+#![tactic(auto)]
+
 mod catalogues;
 mod failure;
 mod finds;

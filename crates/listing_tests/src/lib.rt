@@ -1,4 +1,6 @@
 // Examples of what the commands print and refuse, in a crate of their own so that the libraries are proved once.
+#![tactic(auto)]
+
 #[cfg(test)]
 mod catalogue_tests;
 #[cfg(test)]

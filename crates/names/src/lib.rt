@@ -1,5 +1,7 @@
 // Names of files, stems and volumes: what they may hold, how a name field is written, and when an entry fits one.
 // A name is read as given: up to its first ETX, or to its end. What stands behind the ETX is never looked at.
+#![tactic(auto)]
+
 mod given;
 mod rules;
 mod stem;

@@ -1,5 +1,7 @@
 // The program `pack`: moves bytes between the arguments, the files and the screen. What they ask for and what is printed
 // is computed by the libraries `arguments` and `listing`.
+#![tactic(auto)]
+
 use anyhow::anyhow;
 use arguments::{Command, Medium, USAGE, complaint, read_arguments};
 use blocks::{BlockDevice, Image};

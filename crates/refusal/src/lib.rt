@@ -1,5 +1,7 @@
 // Every refusal of the pack unit: what a call answers when it does not do what it was asked.
 // A refusal is told to the caller as three numbers: its number, its layer and its place.
+#![tactic(auto)]
+
 ghost use Rattle.std.specs.Prelude.{◌≡◌, Some};
 ghost use Rattle.refusal.specs.Refusals.{listed, sentence, line};
 

@@ -1,4 +1,6 @@
 // Calls made on a unit, one or a list of them.
+#![tactic(auto)]
+
 mod performing;
 mod running;
 

@@ -1,4 +1,6 @@
 // Disks that are kept as sectors: the interleave, and a disk as a device.
+#![tactic(auto)]
+
 mod disk;
 mod interleave;
 

@@ -1,4 +1,6 @@
 // The pack unit: a device, and what is known of the pack on it.
+#![tactic(auto)]
+
 mod changes;
 mod fresh;
 mod initialising;
