@@ -6,8 +6,8 @@ pub loop-left-preserved : goal.loop-left-preserved
 loop-left-preserved c =
     passed-more c.args.given.now c.loop-left.count _ c.loop-left.left.now refl (omega (arith, ltb-false)) c.if-first-eq-ETX.false c.loop-left.invariant
 
-pub returns-in-default : goal.returns-in-default
-returns-in-default c = record {
+pub returns-in_default : goal.returns-in_default
+returns-in_default c = record {
   within = omega (arith, c.loop-left.invariant.1);
   value =
       passed-all c.args.given.now c.loop-left.count _ c.loop-left.left.now refl

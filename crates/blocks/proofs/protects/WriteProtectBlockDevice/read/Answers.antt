@@ -9,8 +9,8 @@ returns g c =
     let low = g.D.BlockDevice.meaning c.args.self.now.inner in
     let b = c.args.block in
     let len = length c.args.buffer.now in
-    let within : in_range low b len ≡ true = ap (λ n. ltb b n && eqb len 1024) (sym c.size.ensures) ∙ sym c.if-not-is-in-range.ensures in
+    let within : in_range low b len ≡ true = ap (λ n. ltb b n && eqb len 1024) (sym c.size.ensures) ∙ sym c.if-not-is_in_range.ensures in
     record {
-      reply = c.pass-up.ensures ∙ ap passed_up c.read.ensures.reply ∙ layer-read low (protected low) b b len within within (mark-deeper low.marks b);
+      reply = c.pass_up.ensures ∙ ap passed_up c.read.ensures.reply ∙ layer-read low (protected low) b b len within within (mark-deeper low.marks b);
       filled = c.read.ensures.filled ∙ layer-filled low (protected low) b b len within within (mark-deeper low.marks b) (block_at low b) c.args.buffer.now;
     }

@@ -9,8 +9,8 @@ returns g c =
     let through =
     window-read (g.D.BlockDevice.meaning c.args.self.now.inner) c.args.self.now.first c.args.self.now.count
     c.span-first.result.0 c.span-first.result.1 c.args.block (length c.args.buffer.now) s.first s.size s.within
-    (sym c.if-not-is-in-range.ensures) in
+    (sym c.if-not-is_in_range.ensures) in
     record {
-      reply = c.pass-up.ensures ∙ ap passed_up c.read.ensures.reply ∙ through.0;
+      reply = c.pass_up.ensures ∙ ap passed_up c.read.ensures.reply ∙ through.0;
       filled = c.read.ensures.filled ∙ through.1 c.args.buffer.now;
     }

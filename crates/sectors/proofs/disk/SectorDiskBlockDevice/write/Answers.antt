@@ -70,7 +70,7 @@ invariant-of-self c =
       ap is_disk same ∙ written-whole xs x.protected x.whole b sizes.0 ys sizes.1,
       (
         (λ i. subst (λ zs. get_or zs i 0 < 256) (sym same)
-            (written_small xs x.protected x.whole b sizes.0 ys sizes.1 x.small (λ j. omega (arith, c.type-inv.buffer j)) i)),
+            (written_small xs x.protected x.whole b sizes.0 ys sizes.1 x.small (λ j. omega (arith, c.type_inv.buffer j)) i)),
         tt,
       ),
     )
