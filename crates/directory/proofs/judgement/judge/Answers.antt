@@ -23,24 +23,24 @@ returns-then-size-lt2 g c =
     let reply = one_block d len c.if-work-ne-BLOCK.false (omega (arith, c.size.ensures, c.if-size-lt2.true)) in
     record { reply = reply; law = judgement-law d len _ reply; layout = layout-law d; work = refl }
 
-pub returns-in-err-heard : goal.returns-in-err-heard
-returns-in-err-heard g c =
+pub returns-in_err-heard : goal.returns-in_err-heard
+returns-in_err-heard g c =
     let d = g.D.BlockDevice.meaning c.args.device.now in
     let len = length c.args.work.now in
-    let exit = err_from_is_err_and c.from-residual.result c.from-residual.ensures.1 in
-    let reply = exit.1 ∙ ap Err exit.2 ∙ unread-first d len c.if-work-ne-BLOCK.false (omega (arith, c.size.ensures, c.if-size-lt2.false)) c.in-err-heard.field-0.0
-    (c.in-err-heard.ensures ∙ ap heard_as c.read.ensures.reply) in
+    let exit = err_from_is_err_and c.from_residual.result c.from_residual.ensures.1 in
+    let reply = exit.1 ∙ ap Err exit.2 ∙ unread-first d len c.if-work-ne-BLOCK.false (omega (arith, c.size.ensures, c.if-size-lt2.false)) c.in_err-heard.field-0.0
+    (c.in_err-heard.ensures ∙ ap heard_as c.read.ensures.reply) in
     record { reply = reply; law = judgement-law d len _ reply; layout = layout-law d; work = c.read.auto.buffer }
 
-pub returns-then-not-volume-holds : goal.returns-then-not-volume-holds
-returns-then-not-volume-holds g c =
+pub returns-then-not-volume_holds : goal.returns-then-not-volume_holds
+returns-then-not-volume_holds g c =
     let d = g.D.BlockDevice.meaning c.args.device.now in
     let len = length c.args.work.now in
     let full = c.if-work-ne-BLOCK.false in
-    let h = held d 1 c.args.work.now c.read.new.buffer c.in-ok-heard.field-0 (g.met.D.BlockDevice.wide c.args.device.now)
-    (c.in-ok-heard.ensures ∙ ap heard_as c.read.ensures.reply) c.read.ensures.filled in
-    let test = c.volume-holds.ensures ∙ ap₂ volume_holds c.size-2.ensures (c.entry-in-volume.ensures ∙ ap (λ b. entry_in b 0) h.same) in
-    let reply = bad-volume d len full (omega (arith, c.size.ensures, c.if-size-lt2.false)) (ap (read_fault d 1) (sym full) ∙ h.none) (sym test ∙ c.if-not-volume-holds.true) in
+    let h = held d 1 c.args.work.now c.read.new.buffer c.in_ok-heard.field-0 (g.met.D.BlockDevice.wide c.args.device.now)
+    (c.in_ok-heard.ensures ∙ ap heard_as c.read.ensures.reply) c.read.ensures.filled in
+    let test = c.volume_holds.ensures ∙ ap₂ volume_holds c.size-2.ensures (c.entry_in-volume.ensures ∙ ap (λ b. entry_in b 0) h.same) in
+    let reply = bad-volume d len full (omega (arith, c.size.ensures, c.if-size-lt2.false)) (ap (read_fault d 1) (sym full) ∙ h.none) (sym test ∙ c.if-not-volume_holds.true) in
     record { reply = reply; law = judgement-law d len _ reply; layout = layout-law d; work = c.read.auto.buffer }
 
 pub returns : goal.returns
@@ -48,11 +48,11 @@ returns g c =
     let d = g.D.BlockDevice.meaning c.args.device.now in
     let len = length c.args.work.now in
     let full = c.if-work-ne-BLOCK.false in
-    let h = held d 1 c.args.work.now c.read.new.buffer c.in-ok-heard.field-0 (g.met.D.BlockDevice.wide c.args.device.now)
-    (c.in-ok-heard.ensures ∙ ap heard_as c.read.ensures.reply) c.read.ensures.filled in
-    let volume = c.entry-in-volume.ensures ∙ ap (λ b. entry_in b 0) h.same in
-    let test = c.volume-holds.ensures ∙ ap₂ volume_holds c.size-2.ensures volume in
-    let directory = c.directory-blocks.ensures ∙ ap directory_of volume in
-    let reply = c.judge-files.ensures.reply ∙ ap (λ n. unless_fault (first_unread d 2 (n - 1)) (verdict d (layout_fault d))) directory
-    ∙ good-volume d len full (omega (arith, c.size.ensures, c.if-size-lt2.false)) (ap (read_fault d 1) (sym full) ∙ h.none) (sym test ∙ c.if-not-volume-holds.false) in
-    record { reply = reply; law = judgement-law d len _ reply; layout = layout-law d; work = c.judge-files.ensures.work ∙ c.read.auto.buffer }
+    let h = held d 1 c.args.work.now c.read.new.buffer c.in_ok-heard.field-0 (g.met.D.BlockDevice.wide c.args.device.now)
+    (c.in_ok-heard.ensures ∙ ap heard_as c.read.ensures.reply) c.read.ensures.filled in
+    let volume = c.entry_in-volume.ensures ∙ ap (λ b. entry_in b 0) h.same in
+    let test = c.volume_holds.ensures ∙ ap₂ volume_holds c.size-2.ensures volume in
+    let directory = c.directory_blocks.ensures ∙ ap directory_of volume in
+    let reply = c.judge_files.ensures.reply ∙ ap (λ n. unless_fault (first_unread d 2 (n - 1)) (verdict d (layout_fault d))) directory
+    ∙ good-volume d len full (omega (arith, c.size.ensures, c.if-size-lt2.false)) (ap (read_fault d 1) (sym full) ∙ h.none) (sym test ∙ c.if-not-volume_holds.false) in
+    record { reply = reply; law = judgement-law d len _ reply; layout = layout-law d; work = c.judge_files.ensures.work ∙ c.read.auto.buffer }

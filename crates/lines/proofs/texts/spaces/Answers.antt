@@ -5,4 +5,4 @@ use Rattle.lines.proofs.texts.spaces.Goals as goal
 
 pub loop-preserved : goal.loop-preserved
 loop-preserved c =
-    pushed (32 ∷ []) c.loop.invariant c.in-ok-push-str.was c.push-str.ensures.bytes ∙ replicate_more {X = ℕ} c.loop.counter 32
+    pushed (32 ∷ []) c.loop.invariant c.in_ok-push_str.was c.push_str.ensures.bytes ∙ replicate_more {X = ℕ} c.loop.counter 32

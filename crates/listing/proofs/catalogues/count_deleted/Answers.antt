@@ -7,7 +7,7 @@ use Rattle.listing.proofs.catalogues.count_deleted.Goals.{then-has, else-has}
 
 pub loop-number-preserved : goal.loop-number-preserved
 loop-number-preserved c =
-    let told = c.has.ensures ∙ ap (bit 2) (c.attributes.ensures ∙ ap attributes_of c.entry-at.ensures) in
+    let told = c.has.ensures ∙ ap (bit 2) (c.attributes.ensures ∙ ap attributes_of c.entry_at.ensures) in
     elim c.if-has.branch [
       | then-has w ↦ count-more is_deleted c.args.bytes.now c.loop-number.number c.args.to c.loop-number.count c.if-has.count _ true
           c.loop-number-test.true (sym told ∙ w.if-has.true) w.count-is c.loop-number.invariant.1 c.loop-number.invariant.0

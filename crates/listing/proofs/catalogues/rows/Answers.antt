@@ -6,8 +6,8 @@ use Rattle.listing.proofs.catalogues.rows.Goals as goal
 
 pub loop-number-preserved : goal.loop-number-preserved
 loop-number-preserved c =
-    rows_more c.args.bytes.now c.loop-number.number c.args.to _ c.as-str.result.now _ _ c.loop-number-test.true
-    (c.as-str.ensures.value ∙ c.in-ok-line.ensures ∙ ap (row_text c.loop-number.number) c.entry-at.ensures)
-    (pushed (codes "\n") (pushed c.as-str.result.now refl c.in-ok-push-str.was c.push-str.ensures.bytes)
-    c.in-ok-push-str-2.was c.push-str-in-loop-number.ensures.bytes)
+    rows_more c.args.bytes.now c.loop-number.number c.args.to _ c.as_str.result.now _ _ c.loop-number-test.true
+    (c.as_str.ensures.value ∙ c.in_ok-line.ensures ∙ ap (row_text c.loop-number.number) c.entry_at.ensures)
+    (pushed (codes "\n") (pushed c.as_str.result.now refl c.in_ok-push_str.was c.push_str.ensures.bytes)
+    c.in_ok-push_str-2.was c.push_str-in-loop-number.ensures.bytes)
     c.loop-number.invariant

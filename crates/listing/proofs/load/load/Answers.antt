@@ -9,21 +9,21 @@ returns-in-Err g c = record {
   holds = tt;
 }
 
-pub load-volume-requires : goal.load-volume-requires
-load-volume-requires g c =
+pub load_volume-requires : goal.load_volume-requires
+load_volume-requires g c =
     omega (
       arith,
       appended-long (g.D.BlockDevice.meaning c.args.device.now) (g.met.D.BlockDevice.wide c.args.device.now) 1
-          (vec_items c.new-bytes.result) (vec_items c.append-block.new.bytes) c.in-default.ensures,
+          (vec_items c.new-bytes.result) (vec_items c.append_block.new.bytes) c.in_default.ensures,
       ap length c.new-bytes.ensures.items,
     )
 
 pub returns : goal.returns
 returns g c = record {
   value =
-      subst (Loads c.load-volume.result)
+      subst (Loads c.load_volume.result)
       (loaded-first (g.D.BlockDevice.meaning c.args.device.now) (omega (arith, c.size.ensures)) (vec_items c.new-bytes.result)
-      (vec_items c.append-block.new.bytes) c.new-bytes.ensures.items c.in-default.ensures)
-      c.load-volume.ensures.value;
-  holds = c.load-volume.ensures.holds;
+      (vec_items c.append_block.new.bytes) c.new-bytes.ensures.items c.in_default.ensures)
+      c.load_volume.ensures.value;
+  holds = c.load_volume.ensures.holds;
 }

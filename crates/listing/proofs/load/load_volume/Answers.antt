@@ -10,13 +10,13 @@ pub returns : goal.returns
 returns g c =
     let d = g.D.BlockDevice.meaning c.args.device.now in
     let xs = vec_items c.args.bytes in
-    let ys = vec_items c.load-more.new.bytes in
-    let entry = c.entry-at-volume.ensures ∙ ap (λ zs. entry_at zs 0) c.as-slice.ensures.value in
-    let holds : volume_holds (size_of d) (entry_at xs 0) ≡ true = ap₂ volume_holds (sym c.size.ensures) (sym entry) ∙ sym c.if-not-volume-holds.ensures in
-    let blocks = c.from-blocks.ensures ∙ c.directory-blocks.ensures ∙ ap directory_of entry in
-    let long = more-long d (g.met.D.BlockDevice.wide c.args.device.now) _ 2 xs ys c.in-default.ensures in
+    let ys = vec_items c.load_more.new.bytes in
+    let entry = c.entry_at-volume.ensures ∙ ap (λ zs. entry_at zs 0) c.as_slice.ensures.value in
+    let holds : volume_holds (size_of d) (entry_at xs 0) ≡ true = ap₂ volume_holds (sym c.size.ensures) (sym entry) ∙ sym c.if-not-volume_holds.ensures in
+    let blocks = c.from-blocks.ensures ∙ c.directory_blocks.ensures ∙ ap directory_of entry in
+    let long = more-long d (g.met.D.BlockDevice.wide c.args.device.now) _ 2 xs ys c.in_default.ensures in
     let some = volume-some (size_of d) (entry_at xs 0) holds in
     record {
-      value = volume-read d xs ys c.from-blocks.result holds blocks c.in-default.ensures;
+      value = volume-read d xs ys c.from-blocks.result holds blocks c.in_default.ensures;
       holds = record { some = omega (arith, blocks, some); few = omega (arith, blocks); long = omega (arith, long, c.requires, blocks, some) };
     }

@@ -9,5 +9,5 @@ returns c =
     let long : length part ≡ 512 = omega (arith, length-take 512 (drop c.args.start c.args.from.now), length-drop c.args.start c.args.from.now) in
     let from-size : c.args.start + 512 - c.args.start ≡ 512 = omega arith in
     let to-size : c.args.at + 512 - c.args.at ≡ length part = omega arith in
-    stored-mid c.args.to.now c.copy-from-slice.new.self part c.args.at (c.args.at + 512 - c.args.at)
-    (c.copy-from-slice.ensures.after ∙ ap (λ n. take n (drop c.args.start c.args.from.now)) from-size) to-size
+    stored-mid c.args.to.now c.copy_from_slice.new.self part c.args.at (c.args.at + 512 - c.args.at)
+    (c.copy_from_slice.ensures.after ∙ ap (λ n. take n (drop c.args.start c.args.from.now)) from-size) to-size
