@@ -2,6 +2,7 @@
 use crate::samples::*;
 use blocks::{BlockDevice, Fault, Tab};
 use sectors::{DISK, SectorDisk, record_of};
+use std::test::Fail;
 
 // A sector, and the record that keeps it.
 const RECORDS: [(u16, Option<u16>); 19] = [

@@ -1,6 +1,7 @@
 // The image: what can be one, and what it reads, writes and refuses.
 use crate::samples::*;
 use blocks::{BlockDevice, Fault, Image, Tab};
+use std::test::Fail;
 
 #[test]
 fn bytes_that_are_no_image_are_handed_back(rt: HostRuntime) -> Result<(), Fail> {

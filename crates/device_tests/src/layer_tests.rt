@@ -1,6 +1,7 @@
 // The window and the write-protect layer, each over one device.
 use crate::samples::*;
 use blocks::{Fault, Rejected, Tab, Window, WriteProtect};
+use std::test::Fail;
 
 // A first block and a count that fit in no device of three blocks.
 const NO_WINDOWS: [(u32, u32); 7] = [

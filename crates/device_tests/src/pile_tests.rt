@@ -2,6 +2,7 @@
 use crate::samples::*;
 use blocks::{BlockDevice, Fault, Tab, Window, WriteProtect};
 use std::process::Abort;
+use std::test::Fail;
 
 #[test]
 fn a_window_over_protection_over_a_disk(rt: HostRuntime) -> Result<(), Fail> {

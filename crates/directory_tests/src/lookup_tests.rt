@@ -13,7 +13,7 @@ use test_aids::WholeEntry;
 // names have no ETX. A lookup asks for no first block and no room.
 const FILES: [(u16, File); 13] = [
     // no characters before the first ETX, then one
-    (3, (b"\x03_lOGA\x03      ", 0x10, (0, 0), (0, 0))),
+    (3, (b"\x03LOGA\x03      ", 0x10, (0, 0), (0, 0))),
     (4, (b"Q\x03          ", 0x10, (0, 0), (0, 0))),
     (5, (b"LOGA\x03       ", 0x14, (0, 0), (0, 0))),
     (6, (b"LOGA\x03       ", 0x10, (0, 0), (0, 0))),
@@ -21,7 +21,7 @@ const FILES: [(u16, File); 13] = [
     (8, (b"LOGB\x03       ", 0x10, (0, 0), (0, 0))),
     (9, (b"GONEH\x03      ", 0x04, (0, 0), (0, 0))),
     // all attributes that a live file can have, and an older name's tail
-    (10, (b"NOTEH\x03_oLDER\x03", 0xfa, (0, 0), (0, 0))),
+    (10, (b"NOTEH\x03OLDER\x03", 0xfa, (0, 0), (0, 0))),
     (11, (b"ABCDEFGHIJH\x03", 0x00, (0, 0), (0, 0))),
     (38, (b"LASTH\x03      ", 0x10, (0, 0), (0, 0))),
     (39, (b"NEXTH\x03      ", 0x10, (0, 0), (0, 0))),

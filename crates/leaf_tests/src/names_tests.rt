@@ -21,17 +21,17 @@ const RULES: [(&[u8], bool, bool, bool); 27] = [
     (b"ABCDEFGHIJ", true, true, true),
     (b"ABCDEFGHIJK", true, false, true),
     (b"ABCDEFGHIJKL", false, false, false),
-    (b"\x1f_a", false, false, false),
+    (b"\x1fA", false, false, false),
     (b" A", true, true, true),
     (b"~A", true, true, true),
-    (b"\x7f_a", false, false, false),
-    (b"\x80_a", false, false, false),
+    (b"\x7fA", false, false, false),
+    (b"\x80A", false, false, false),
     (b"BOOT", false, true, true),
     (b"DIRECTORY", false, true, true),
     (b"BLOCKS LEFT", false, false, true),
-    (b"\x03_aB", false, false, false),
+    (b"\x03AB", false, false, false),
     (b"LOGA\x03\x00\xff", true, true, true),
-    (b"BOOT\x03_s", false, true, true),
+    (b"BOOT\x03S", false, true, true),
 ];
 
 #[test]
@@ -56,7 +56,7 @@ fn a_broken_name_is_refused_by_14(rt: HostRuntime) -> Result<(), Fail> {
 // Names as given, and their characters.
 const CHARACTERS: [(&[u8], &[u8]); 5] = [
     (b"", b""),
-    (b"\x03_aBC", b""),
+    (b"\x03ABC", b""),
     (b"LOGA", b"LOGA"),
     (b"LOGA\x03z", b"LOGA"),
     (b"ABCDEFGHIJKL", b"ABCDEFGHIJKL"),
@@ -73,14 +73,14 @@ fn characters_end_before_the_first_etx(rt: HostRuntime) {
 const PAIRS: [(&[u8], &[u8], bool); 6] = [
     (b"LOGA", b"LOGA\x03z", true),
     (
-        b"LOGA\x03_oLDTAIL",
+        b"LOGA\x03OLDTAIL",
         b"LOGA\x03\x00\x00\x00\x00\x00\x00\x00",
         true,
     ),
     (b"LOGA", b"LOGH", false),
     (b"LOGA", b"LOG", false),
     (b"LOGA", b"loga", false),
-    (b"\x03_a", b"", true),
+    (b"\x03A", b"", true),
 ];
 
 #[test]
@@ -92,7 +92,7 @@ fn names_are_compared_by_their_characters(rt: HostRuntime) {
 
 // A key, an entry's name field, and whether it fits as a whole name and as a stem.
 const FITS: [(&[u8], &[u8], bool, bool); 9] = [
-    (b"LOGA", b"LOGA\x03_tAILXYZ", true, false),
+    (b"LOGA", b"LOGA\x03TAILXYZ", true, false),
     (b"LOGA", b"LOGAB\x03\x00\x00\x00\x00\x00\x00", false, true),
     (b"LOGA", b"LOGA1\x03\x00\x00\x00\x00\x00\x00", false, true),
     (

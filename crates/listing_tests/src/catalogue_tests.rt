@@ -2,6 +2,7 @@
 use crate::images::*;
 use listing::{Failure, catalogue};
 use refusal::Refusal;
+use std::test::Fail;
 
 #[test]
 fn a_catalogue(rt: HostRuntime) -> Result<(), Fail> {

@@ -4,6 +4,7 @@ use listing::{Failure, catalogue};
 use refusal::Refusal;
 use sectors::{DISK, SectorDisk};
 use std::alloc::Global;
+use std::test::Fail;
 
 // A disk whose block 1 begins with these entries, with one byte of it changed. Block 1 is sectors 2 and 3, which are in
 // records 2 and 7; the entries fill less than the first of them.

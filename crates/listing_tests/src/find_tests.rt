@@ -2,6 +2,7 @@
 use crate::images::*;
 use listing::{Failure, find};
 use refusal::Refusal;
+use std::test::Fail;
 
 const LETTER_ROW: &str = "    3  LETTER     H  live     ---U----        2      1        10  -
 Found by its whole name.
@@ -65,7 +66,7 @@ fn found_nothing(rt: HostRuntime) -> Result<(), Fail> {
             Some(Failure::Refused(Refusal::NoSuchFile))
         );
     }
-    for name in [&b""[..], b"\x03_lOGA", b"ABCDEFGHIJKL", b"A\x1f"] {
+    for name in [&b""[..], b"\x03LOGA", b"ABCDEFGHIJKL", b"A\x1f"] {
         assert_eq!(rt;
             find(heap, &image, name).err(),
             Some(Failure::Refused(Refusal::BadName))

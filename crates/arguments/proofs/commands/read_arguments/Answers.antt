@@ -4,17 +4,17 @@ use Rattle.arguments.specs.declared.commands.Name.TheVariants.{Catalogue, Find}
 use Rattle.arguments.proofs.Arguments.{none-given, word-given}
 use Rattle.arguments.proofs.commands.read_arguments.Goals as goal
 
-pub returns-in-default : goal.returns-in-default
-returns-in-default c = none-given string_bytes c.args.args.now (omega (arith, ltb-true))
+pub returns-in_default : goal.returns-in_default
+returns-in_default c = none-given string_bytes c.args.args.now (omega (arith, ltb-true))
 
 pub returns-in-Catalogue : goal.returns-in-Catalogue
 returns-in-Catalogue c =
-    c.catalogue-asked.ensures ∙ ap₂ catalogue_asked c.take-medium-medium.ensures.medium c.take-medium-medium.ensures.places
-    ∙ word-given string_bytes Catalogue c.args.args.now c.word-item.result c.as-str.result.now _ (sym c.in-Catalogue.is ∙ c.name-of.ensures)
-    (omega (arith, ltb-false)) refl c.word-item.is c.as-str.ensures.value
+    c.catalogue_asked.ensures ∙ ap₂ catalogue_asked c.take_medium-medium.ensures.medium c.take_medium-medium.ensures.places
+    ∙ word-given string_bytes Catalogue c.args.args.now c.word-item.result c.as_str.result.now _ (sym c.in-Catalogue.is ∙ c.name_of.ensures)
+    (omega (arith, ltb-false)) refl c.word-item.is c.as_str.ensures.value
 
 pub returns-in-Find : goal.returns-in-Find
 returns-in-Find c =
-    c.find-asked.ensures ∙ ap₂ find_asked c.take-medium-medium.ensures.medium c.take-medium-medium.ensures.places
-    ∙ word-given string_bytes Find c.args.args.now c.word-item.result c.as-str.result.now _ (sym c.in-Find.is ∙ c.name-of.ensures)
-    (omega (arith, ltb-false)) refl c.word-item.is c.as-str.ensures.value
+    c.find_asked.ensures ∙ ap₂ find_asked c.take_medium-medium.ensures.medium c.take_medium-medium.ensures.places
+    ∙ word-given string_bytes Find c.args.args.now c.word-item.result c.as_str.result.now _ (sym c.in-Find.is ∙ c.name_of.ensures)
+    (omega (arith, ltb-false)) refl c.word-item.is c.as_str.ensures.value

@@ -5,4 +5,4 @@ use Rattle.console.proofs.calls.initialise.Goals as goal
 
 pub returns : goal.returns
 returns c =
-    ap₂ (λ length name. model.initialise length name c.args.directory c.args.size) (zeros-long (vec_items c.in-ok-work.work) c.args.work c.in-ok-work.ensures) c.in-ok-name.ensures
+    ap₂ (λ length name. model.initialise length name c.args.directory c.args.size) (zeros-long (vec_items c.in_ok-work.work) c.args.work c.in_ok-work.ensures) c.in_ok-name.ensures

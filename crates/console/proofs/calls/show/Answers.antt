@@ -5,4 +5,4 @@ use Rattle.console.proofs.calls.show.Goals as goal
 
 pub returns : goal.returns
 returns c =
-    ap₂ (λ length buffer. model.show length c.args.entry buffer) (zeros-long (vec_items c.in-ok-work.work) c.args.work c.in-ok-work.ensures) c.in-ok-buffer.ensures
+    ap₂ (λ length buffer. model.show length c.args.entry buffer) (zeros-long (vec_items c.in_ok-work.work) c.args.work c.in_ok-work.ensures) c.in_ok-buffer.ensures

@@ -5,4 +5,4 @@ use Rattle.console.proofs.calls.take_up.Goals as goal
 
 pub returns : goal.returns
 returns c =
-    ap model.take_up (zeros-long (vec_items c.in-ok-work.work) c.args.work c.in-ok-work.ensures)
+    ap model.take_up (zeros-long (vec_items c.in_ok-work.work) c.args.work c.in_ok-work.ensures)

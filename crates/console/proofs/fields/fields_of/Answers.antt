@@ -10,11 +10,11 @@ returns c =
       count =
           omega (
             arith,
-            counted given (later c.next-field.result.1.now) (later c.next-field-2.result.1.now) (later c.next-field-3.result.1.now)
-                c.next-field.ensures.rest c.next-field-2.ensures.rest c.next-field-3.ensures.rest,
+            counted given (later c.next_field.result.1.now) (later c.next_field-2.result.1.now) (later c.next_field-3.result.1.now)
+                c.next_field.ensures.rest c.next_field-2.ensures.rest c.next_field-3.ensures.rest,
           );
-      first = c.next-field.ensures.field;
-      second = c.next-field-2.ensures.field ∙ ap (at 0) c.next-field.ensures.rest ∙ second_at given;
+      first = c.next_field.ensures.field;
+      second = c.next_field-2.ensures.field ∙ ap (at 0) c.next_field.ensures.rest ∙ second_at given;
       third =
-          c.next-field-3.ensures.field ∙ ap (at 0) (c.next-field-2.ensures.rest ∙ ap (drop 1) c.next-field.ensures.rest) ∙ third_at given;
+          c.next_field-3.ensures.field ∙ ap (at 0) (c.next_field-2.ensures.rest ∙ ap (drop 1) c.next_field.ensures.rest) ∙ third_at given;
     }

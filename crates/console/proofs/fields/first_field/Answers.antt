@@ -5,6 +5,6 @@ use Rattle.console.proofs.fields.first_field.Goals as goal
 
 pub returns : goal.returns
 returns c =
-    ap₂ (λ field rest. field ∷ later rest) c.split-at.ensures.front c.split-at.ensures.back
-    ∙ ap (λ n. take n c.args.line.now ∷ later (drop n c.args.line.now)) c.field-length.ensures.value
+    ap₂ (λ field rest. field ∷ later rest) c.split_at.ensures.front c.split_at.ensures.back
+    ∙ ap (λ n. take n c.args.line.now ∷ later (drop n c.args.line.now)) c.field_length.ensures.value
     ∙ split false c.args.line.now

@@ -5,22 +5,22 @@ use Rattle.console.specs.Numbers.{with_digits}
 use Rattle.console.proofs.Counting.{digit-read, no-digits, some-digits}
 use Rattle.console.proofs.numbers.number_of.Goals as goal
 
-pub returns-in-err-number : goal.returns-in-err-number
-returns-in-err-number c =
-    c.from-residual.ensures
-    ∙ digit-read c.args.field.now c.loop-digit.digit-index c.loop-digit.number None c.loop-digit-test.true c.in-err-number.ensures
+pub returns-in_err-number : goal.returns-in_err-number
+returns-in_err-number c =
+    c.from_residual.ensures
+    ∙ digit-read c.args.field.now c.loop-digit.digit-index c.loop-digit.number None c.loop-digit-test.true c.in_err-number.ensures
     ∙ c.loop-digit.invariant
 
 pub loop-digit-init : goal.loop-digit-init
-loop-digit-init c = some-digits c.args.field.now (eqb-false _ 0 (sym c.if-is-empty.ensures))
+loop-digit-init c = some-digits c.args.field.now (eqb-false _ 0 (sym c.if-is_empty.ensures))
 
 pub loop-digit-preserved : goal.loop-digit-preserved
 loop-digit-preserved c =
-    digit-read c.args.field.now c.loop-digit.digit-index c.loop-digit.number (Some c.in-ok-number.number) c.loop-digit-test.true c.in-ok-number.ensures
+    digit-read c.args.field.now c.loop-digit.digit-index c.loop-digit.number (Some c.in_ok-number.number) c.loop-digit-test.true c.in_ok-number.ensures
     ∙ c.loop-digit.invariant
 
-pub returns-then-is-empty : goal.returns-then-is-empty
-returns-then-is-empty c = no-digits c.args.field.now (eqb-true _ 0 (sym c.if-is-empty.ensures))
+pub returns-then-is_empty : goal.returns-then-is_empty
+returns-then-is_empty c = no-digits c.args.field.now (eqb-true _ 0 (sym c.if-is_empty.ensures))
 
 pub returns : goal.returns
 returns c =

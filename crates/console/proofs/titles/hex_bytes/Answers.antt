@@ -4,8 +4,8 @@ use Rattle.console.proofs.titles.hex_bytes.Goals as goal
 
 pub loop-left-preserved : goal.loop-left-preserved
 loop-left-preserved c =
-    pair-more (vec_items c.loop-left.bytes) _ c.loop-left.left.now _ c.pair-value.result _ refl (omega (arith, ltb-false)) c.pair-value.ensures
-    c.in-ok-push.ensures.items c.loop-left.invariant
+    pair-more (vec_items c.loop-left.bytes) _ c.loop-left.left.now _ c.pair_value.result _ refl (omega (arith, ltb-false)) c.pair_value.ensures
+    c.in_ok-push.ensures.items c.loop-left.invariant
 
 pub returns : goal.returns
 returns c = pairs_end (vec_items c.loop-left.bytes) c.loop-left.left.now _ (omega (arith, ltb-true)) c.loop-left.invariant

@@ -6,8 +6,8 @@ use Rattle.requests.specs.Values.{meant, told}
 use Rattle.runs.proofs.Tracing.{composes, err-cases, law-of, no_items, sofar-next}
 use Rattle.runs.proofs.running.run.Goals as goal
 
-pub returns-in-err-replies : goal.returns-in-err-replies
-returns-in-err-replies g c =
+pub returns-in_err-replies : goal.returns-in_err-replies
+returns-in_err-replies g c =
     let exit = err_from_is_err_and c.from-residual.result c.from-residual.ensures.1 in
     record { law = err-cases _ c.from-residual.result exit.0 exit.1 refl; compose = composes }
 

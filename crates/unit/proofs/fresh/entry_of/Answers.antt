@@ -5,6 +5,6 @@ use Rattle.unit.proofs.fresh.entry_of.Goals as goal
 pub returns : goal.returns
 returns c =
     let span = c.args.span in
-    built c.args.name.now c.field-of.result c.args.date c.requires c.field-of.ensures span.attributes span.first span.room span.used span.last
-    _ _ _ _ _ _ _ _ refl c.set-name-field.ensures c.set-attributes.ensures c.set-first-block.ensures c.set-room.ensures c.set-used.ensures c.set-last.ensures
-    c.set-date.ensures
+    built c.args.name.now c.field_of.result c.args.date c.requires c.field_of.ensures span.attributes span.first span.room span.used span.last
+    _ _ _ _ _ _ _ _ refl c.set_name_field.ensures c.set_attributes.ensures c.set_first_block.ensures c.set_room.ensures c.set_used.ensures c.set_last.ensures
+    c.set_date.ensures

@@ -11,6 +11,6 @@ returns c =
     let bytes = c.args.entry.now.bytes in
     let left = length-drop at block in
     let some = length-take-le k (drop at block) (omega (arith, left, c.requires.full, c.requires.near)) in
-    let size : k ≡ length bytes = sym some ∙ sym c.copy-from-slice.ensures.len ∙ ap length c.copy-from-slice.ensures.after in
-    let put = stored-mid block c.copy-from-slice.new.self bytes at k c.copy-from-slice.ensures.after size in
+    let size : k ≡ length bytes = sym some ∙ sym c.copy_from_slice.ensures.len ∙ ap length c.copy_from_slice.ensures.after in
+    let put = stored-mid block c.copy_from_slice.new.self bytes at k c.copy_from_slice.ensures.after size in
     record { put = put; full = ap length put ∙ length-stored block at bytes (omega (arith, size, c.requires.full, c.requires.near)) ∙ c.requires.full }

@@ -18,7 +18,7 @@ loop-block-preserved g c =
     let d = g.D.BlockDevice.meaning c.args.device.now in
     let b = c.loop-block.block in
     bad-on d b (length c.loop-block.work) (c.args.directory + 1 - b) (c.args.directory + 1 - (b + 1)) (omega (arith, c.loop-block-test.true, c.requires.within))
-    (c.loop-block.auto.work ∙ c.requires.full) (omega (arith, c.loop-block-test.true)) c.in-default.ensures.reply
+    (c.loop-block.auto.work ∙ c.requires.full) (omega (arith, c.loop-block-test.true)) c.in_default.ensures.reply
     ∙ c.loop-block.invariant
 
 pub returns : goal.returns

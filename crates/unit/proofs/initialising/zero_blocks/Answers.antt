@@ -4,8 +4,8 @@ use Rattle.std.proofs.lemmas.List.{length-replicate}
 use Rattle.unit.proofs.Clearing.{can_write, clear-on, same-marks}
 use Rattle.unit.proofs.initialising.zero_blocks.Goals as goal
 
-pub write-block-requires : goal.write-block-requires
-write-block-requires g c =
+pub write_block-requires : goal.write_block-requires
+write_block-requires g c =
     let d = g.D.BlockDevice.meaning c.loop-block.device in
     let old = g.D.BlockDevice.meaning c.args.device.now in
     let dir = c.args.directory in
@@ -20,6 +20,6 @@ loop-block-preserved g c =
     let d = g.D.BlockDevice.meaning c.loop-block.device in
     let dir = c.args.directory in
     let b = c.loop-block.block in
-    clear-on d (g.D.BlockDevice.meaning c.write-block.new.device) b (dir + 1 - b) (dir + 1 - (b + 1)) c.args.zeros.now
-    (omega (arith, c.loop-block-test.true, c.from-block-end.ensures)) c.requires.zeros c.write-block.ensures
+    clear-on d (g.D.BlockDevice.meaning c.write_block.new.device) b (dir + 1 - b) (dir + 1 - (b + 1)) c.args.zeros.now
+    (omega (arith, c.loop-block-test.true, c.from-block-end.ensures)) c.requires.zeros c.write_block.ensures
     ∙ c.loop-block.invariant
