@@ -51,7 +51,7 @@ fn inits(rt: HostRuntime) -> Result<(), Fail> {
     else {
         return Err(Fail::new("an init"));
     };
-    assert!(rt; name.as_slice() == b"MY PACK");
+    assert!(rt; name.as_slice() == b"MY PACK".as_slice());
     assert_eq!(rt; directory, 1);
     assert_eq!(rt; blocks, 160);
     assert!(rt; all_zeros(work.as_slice(), 1024));
@@ -89,7 +89,7 @@ fn finds(rt: HostRuntime) -> Result<(), Fail> {
             return Err(Fail::new("a find"));
         };
         assert!(rt; matches!(kind, NameKind::Whole) == whole);
-        assert!(rt; name.as_slice() == b"LETTERH");
+        assert!(rt; name.as_slice() == b"LETTERH".as_slice());
         assert!(rt; all_zeros(buffer.as_slice(), len));
         assert!(rt; all_zeros(work.as_slice(), 1023));
     }

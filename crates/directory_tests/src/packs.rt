@@ -115,8 +115,9 @@ pub(crate) fn disk(heap: Global, pack: Vec<u8>, bad: &[usize]) -> Result<SectorD
     let mut disk = whole_disk(vec![in heap; 0; 164160]?)?;
     for number in 0..image.size() {
         let mut block = [0; 1024];
-        assert_eq!(image.read(number, &mut block), Ok(()));
-        assert_eq!(disk.write(number, &block), Ok(()));
+        if image.read(number, &mut block).is_err() || disk.write(number, &block).is_err() {
+            return Err(Fail::new("sound blocks are copied"));
+        }
     }
     let mut bytes = disk.into_bytes();
     for at in bad {

@@ -55,7 +55,7 @@ fn counting() -> Entry {
 #[test]
 fn every_field_is_read_from_its_place(rt: HostRuntime) -> Result<(), Fail> {
     let e = counting();
-    assert!(rt; e.name_field() == [0, 1, 2, 3, 4, 5, 6, 7, 8, 9, 10, 11]);
+    assert!(rt; e.name_field() == [0, 1, 2, 3, 4, 5, 6, 7, 8, 9, 10, 11].as_slice());
     assert_eq!(rt; e.attributes().byte, 12);
     assert_eq!(rt; e.first_block(), 0x100f0e0d);
     assert_eq!(rt; e.room(), 0x1211);
@@ -178,7 +178,7 @@ fn kinds_go_by_number_and_bits(rt: HostRuntime) -> Result<(), Fail> {
                 Kind::Deleted(name) => (name, false, true),
                 Kind::BlocksLeft(name) => (name, true, false),
             };
-            assert!(rt; name == b"OLD");
+            assert!(rt; name == b"OLD".as_slice());
             assert_eq!(rt; is_left, left);
             assert_eq!(rt; is_deleted, deleted);
         }
@@ -195,7 +195,7 @@ fn the_first_three_entries(rt: HostRuntime) -> Result<(), Fail> {
     let Some(Kind::Volume(name)) = kind_of(&block, 0) else {
         return Err(Fail::new("entry 0 is the volume"));
     };
-    assert!(rt; name == b"AAAAAAAAAAAA");
+    assert!(rt; name == b"AAAAAAAAAAAA".as_slice());
     assert!(rt; Entry::from_block(&block, 0).bytes[25] == 3);
     assert!(rt; Entry::from_block(&block, 39).bytes[25] == 3);
     assert!(rt; Entry::from_block(&block, 1).bytes[25] == b'A');
