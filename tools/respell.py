@@ -14,24 +14,27 @@ import sys
 
 WORD = re.compile(r"[A-Za-z_][A-Za-z0-9_'-]*")
 CAMEL = re.compile(r"[a-z][A-Za-z0-9]*[a-z0-9][A-Z]")
+STRING = re.compile(r"""(b?"(?:[^"\\]|\\.)*")""", re.DOTALL)
 MADE = re.compile(r"(?:returns-)?in-")
-KEPT = {"aZ"}
 # a word whose plain respelling is the name of something else in its place
 OTHERWISE = {
     "getD-tabulated": "get_or-tabulated",
+    "getD_part": "get_or-part",
 }
 
 
 def respelled(word):
     if word in OTHERWISE:
         return OTHERWISE[word]
-    if word in KEPT or MADE.match(word) or not CAMEL.match(word):
+    if MADE.match(word) or not CAMEL.match(word):
         return word
     return re.sub(r"(?<=[a-z0-9])[A-Z]", lambda m: "_" + m.group(0).lower(), word)
 
 
 def turned(text):
-    return WORD.sub(lambda m: respelled(m.group(0)), text)
+    """What stands in a string is no word of the specs; an escape as \\x03 with a capital behind it only looks like one."""
+    parts = STRING.split(text)
+    return "".join(part if i % 2 else WORD.sub(lambda m: respelled(m.group(0)), part) for i, part in enumerate(parts))
 
 
 def files():

@@ -1,9 +1,9 @@
 -- The arguments of the program, and what it says when it cannot do what they ask. Assumes nothing.
---   Asked          what arguments ask for, or why they are no command
---   listed         what each answer of the code stands for
---   asked          what a list of arguments asks for
---   misuse_text     why arguments are no command, in words
---   complaint_text  why nothing is printed of a file, in words
+--   Asked            what arguments ask for, or why they are no command
+--   listed           what each answer of the code stands for
+--   asked            what a list of arguments asks for
+--   misuse_text      why arguments are no command, in words
+--   complaint_text   why nothing is printed of a file, in words
 use Rattle.std.specs.Prelude.{ℕ, cond, ◌||◌, List, [], ◌∷◌, ◌++◌, Ok, Err, codes, Result}
 use Rattle.std.specs.Str.{bytes_eq}
 use Rattle.refusal.specs.Refusals.{line}

@@ -1,11 +1,11 @@
 -- What a block device means, and what asking it replies and leaves. Assumes nothing.
---   Device                 the bytes and the mark of each block, and the write-protect tab
---   size_of                 how many blocks it has
---   block_at, mark_at        the bytes and the mark of a block
---   read_fault, write_fault  why reading or writing a block is refused, if it is
---   refusal_of              the refusal that a fault is to a caller of the unit
---   outcome                the reply to that
---   read_out, written       the buffer after a read, the device after a write
+--   Device                    the bytes and the mark of each block, and the write-protect tab
+--   size_of                   how many blocks it has
+--   block_at, mark_at         the bytes and the mark of a block
+--   read_fault, write_fault   why reading or writing a block is refused, if it is
+--   refusal_of                the refusal that a fault is to a caller of the unit
+--   outcome                   the reply to that
+--   read_out, written         the buffer after a read, the device after a write
 use Rattle.std.specs.Prelude.{ℕ, ◌≤◌, Bool, cond, ◌&&◌, List, [], length, Some, None, Ok, Err, Option, Result, ◌==◌, nat_lt, slice_index_or, slice_set}
 use Rattle.refusal.specs.declared.Refusal.{Refusal}
 use Rattle.refusal.specs.declared.Refusal.TheVariants.{OutOfRange as Refused17, WriteProtected as Refused32, BadBlock as Refused22}

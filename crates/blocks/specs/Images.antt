@@ -1,7 +1,7 @@
 -- The meaning of an image: bytes handed in, as a device. Assumes nothing.
 --   tabulated   the list of a function's values at 0, 1, ..
---   is_image     bytes are whole blocks, 1 to 65,535 of them
---   image_of     the device that they are, all blocks sound, with the tab at depth 0 if it is on
+--   is_image    bytes are whole blocks, 1 to 65,535 of them
+--   image_of    the device that they are, all blocks sound, with the tab at depth 0 if it is on
 --   stored      bytes with others put over them from a place on
 --   encoded     the bytes that a device's blocks are, one after the other
 use Rattle.std.specs.Prelude.{ℕ, ◌+◌, ◌*◌, ◌/◌, ◌%◌, Bool, cond, ◌&&◌, List, ◌++◌, map, length, take, drop, ◌==◌, nat_le}

@@ -1,6 +1,6 @@
 -- The meaning of a layer over a device. Assumes nothing.
 --   deeper, deeper_mark, deeper_tab, deeper_fault   what a layer passes up: one deeper, never above 15, the place kept
---   passed_up    a reply as a layer passes it up
+--   passed_up   a reply as a layer passes it up
 --   windowed    some blocks of a device, as a device
 --   protected   a device whose tab is on
 use Rattle.std.specs.Prelude.{ℕ, ◌+◌, ◌-◌, min, map, take, drop, Ok, Err, Result}

@@ -1,6 +1,6 @@
 // The write-protect layer: a device whose tab is on.
 ghost use Rattle.std.specs.Prelude.{◌≡◌};
-ghost use Rattle.std.proofs.Common.{◌∙◌, sym, subst, lit≤, rules};
+ghost use Rattle.std.proofs.Common.{◌∙◌, sym, subst, lit≤};
 ghost use Rattle.blocks.specs.Layers.{protected};
 ghost use Rattle.blocks.specs.Layering.{marks-deeper, mark-deeper, shallow-deeper};
 ghost use Rattle.blocks.specs.Devices.{ShallowMark, mark_at};
@@ -40,11 +40,11 @@ impl<D> WriteProtect<D> {
 impl<D: BlockDevice> BlockDevice for WriteProtect<D> {
     ghost meaning = { λ x. protected (D.BlockDevice.meaning x.inner) };
 
-    ghost sized = { Prim.search rules };
+    ghost sized = { λ x. D.BlockDevice.sized x.inner };
 
-    ghost wide = { Prim.search rules };
+    ghost wide = { λ x. D.BlockDevice.wide x.inner };
 
-    ghost bytes = { Prim.search rules };
+    ghost bytes = { λ x. D.BlockDevice.bytes x.inner };
 
     ghost marked = { λ x. marks-deeper (D.BlockDevice.meaning x.inner).marks ∙ D.BlockDevice.marked x.inner };
 

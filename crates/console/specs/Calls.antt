@@ -1,8 +1,8 @@
 -- Lines as calls of the model. Assumes nothing.
---   Read       what a line says: the length of the work blocks from here on, a call, or nothing readable
---   meaning    what each answer of the code stands for
+--   Read        what a line says: the length of the work blocks from here on, a call, or nothing readable
+--   meaning     what each answer of the code stands for
 --   read_line   what a line says while work blocks have a length; all buffers are zeros
---   ExpectsBy  a law: what is expected of a line that says nothing is the form of its first word
+--   ExpectsBy   a law: what is expected of a line that says nothing is the form of its first word
 use Rattle.std.specs.Prelude.{◌≡◌, ℕ, List, replicate, Ok, Err, Result}
 use Rattle.model.specs.Requests as model
 use Rattle.requests.specs.Values.{meant}

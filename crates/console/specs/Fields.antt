@@ -1,7 +1,7 @@
 -- The fields of a line. Assumes nothing.
---   fields        the fields of a line, which single spaces part; a space within quotes parts nothing
---   later         the fields behind a field, from what stands there: nothing, or a space and the other fields
---   at            the field at a place, counted from 0; an empty one where there are fewer
+--   fields         the fields of a line, which single spaces part; a space within quotes parts nothing
+--   later          the fields behind a field, from what stands there: nothing, or a space and the other fields
+--   at             the field at a place, counted from 0; an empty one where there are fewer
 --   field_length   how long the first field is
 use Rattle.std.specs.Prelude.{ℕ, suc, Bool, false, cond, not, ◌&&◌, List, [], ◌∷◌, ◌==◌, slice_index_or}
 

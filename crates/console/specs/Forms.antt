@@ -1,6 +1,6 @@
 -- What a line asks for. Assumes nothing.
---   Asked          what a line can ask for
---   asked          what a line of these fields asks for, or what is expected of it instead
+--   Asked           what a line can ask for
+--   asked           what a line of these fields asks for, or what is expected of it instead
 --   form_of         the form that a line has to have, by its first word
 --   in_form         what the fields behind the first word ask for, if they have that form
 --   expected_text   the form in words

@@ -1,12 +1,12 @@
 -- Where an entry of the directory stands on a device. Assumes nothing.
---   holder_of    the block that holds an entry
---   entry_at     the 26 bytes of an entry
---   put_entry    the device with other bytes in the place of an entry
---   WorkBlock   the caller's block through which blocks are read and written, before and after
---   entry_read   what reading an entry replies
+--   holder_of                    the block that holds an entry
+--   entry_at                     the 26 bytes of an entry
+--   put_entry                    the device with other bytes in the place of an entry
+--   WorkBlock                    the caller's block through which blocks are read and written, before and after
+--   entry_read                   what reading an entry replies
 --   entry_fault, entry_written   why writing one is refused, if it is, and the device after it
---   heard_as     what a device replied, as the unit's caller hears it
---   EntryLaws   what putting an entry changes and what it does not
+--   heard_as                     what a device replied, as the unit's caller hears it
+--   EntryLaws                    what putting an entry changes and what it does not
 use Rattle.std.specs.Prelude.{◌≡◌, ℕ, ◌+◌, ◌*◌, ◌/◌, ◌%◌, ◌<◌, ◌≤◌, ◌⊎◌, List, length, Some, None, Ok, Err, Option, Result, ◌≢◌, slice_index, slice_set}
 use Rattle.std.specs.Option.{option_or}
 use Rattle.refusal.specs.declared.Refusal.{Refusal}

@@ -1,11 +1,11 @@
 -- The judgement whether a pack follows the layout. Assumes nothing.
---   Holds, holds      an entry keeps what the layout asks of it; the same as a test
---   blocks_left_at      the number of the BLOCKS LEFT entry, if there is one
+--   Holds, holds       an entry keeps what the layout asks of it; the same as a test
+--   blocks_left_at     the number of the BLOCKS LEFT entry, if there is one
 --   layout_fault       the first entry at fault, if there is one
---   AtFault, Unended  an entry is the first at fault; the directory has no BLOCKS LEFT entry
---   LayoutLaw         how the fault stands to the layout
---   judged            what the judgement of a device answers
---   JudgementLaw      what the answer says of the device
+--   AtFault, Unended   an entry is the first at fault; the directory has no BLOCKS LEFT entry
+--   LayoutLaw          how the fault stands to the layout
+--   judged             what the judgement of a device answers
+--   JudgementLaw       what the answer says of the device
 use Rattle.std.specs.Prelude.{◌≡◌, ℕ, zero, suc, ◌+◌, ◌-◌, ◌*◌, ◌<◌, ◌≤◌, Bool, true, false, cond, not, ◌&&◌, ◌||◌, ◌⊎◌, List, [], ◌∷◌, is_some, Some, None, Ok, Err, Option, Result, ◌==◌, nat_le}
 use Rattle.std.specs.Option.{option_or, unwrap_or}
 use Rattle.std.specs.Str.{bytes_eq}

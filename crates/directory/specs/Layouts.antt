@@ -1,6 +1,6 @@
 -- The layout of a pack. Assumes nothing.
 --   directory_blocks, pack_blocks   the blocks of the directory and of the pack, as the volume's entry counts them
---   end_of          the block behind the room of an entry
+--   end_of         the block behind the room of an entry
 --   HasEtx         an ETX stands in a name field
 --   IsLength       used blocks and bytes in the last of them that some length has
 --   IsBlocksLeft   an entry is the BLOCKS LEFT entry

@@ -1,8 +1,8 @@
 -- The single pass of the judgement through the directory, for the code's inner functions. Assumes nothing.
 --   head_fault   the first of the entries 1 and 2 that does not hold, in the first block of the directory
 --   seen_after   what has been seen after one entry more; seen_from, after `count` more of a block
---   told        what is answered when all has been seen
---   Begun       what is known where the pass begins
+--   told         what is answered when all has been seen
+--   Begun        what is known where the pass begins
 use Rattle.std.specs.Prelude.{◌≡◌, ℕ, zero, suc, ◌+◌, ◌*◌, ◌<◌, true, cond, List, length, is_some, Some, None, Ok, Err, Option, Result}
 use Rattle.std.specs.Option.{option_or, unwrap_or}
 use Rattle.refusal.specs.declared.Refusal.{Refusal}

@@ -7,8 +7,8 @@ use Rattle.std.proofs.lemmas.List.{drop-drop, get_or-take, get_or-drop, take-tak
 use Rattle.entry.specs.Fields.{attributes_of, bit, name_of, part, stored}
 
 -- the byte at place i of a part
-pub get_d_part : (xs : List ℕ) (at count i : ℕ) → i < count → get_or (part at count xs) i 0 ≡ get_or xs (at + i) 0
-get_d_part xs at count i h = get_or-take count (drop at xs) i 0 h ∙ get_or-drop at xs i 0
+pub get_or-part : (xs : List ℕ) (at count i : ℕ) → i < count → get_or (part at count xs) i 0 ≡ get_or xs (at + i) 0
+get_or-part xs at count i h = get_or-take count (drop at xs) i 0 h ∙ get_or-drop at xs i 0
 
 -- what a copy to a part leaves
 pub stored-mid : (xs ys new : List ℕ) (at k : ℕ) → ys ≡ new → k ≡ length new → put_mid at k xs ys ≡ stored xs at new
@@ -25,4 +25,4 @@ pub name_in : (block : List ℕ) (at k : ℕ) → k ≡ 12 → take k (drop at b
 name_in block at k e = ap (λ j. take j (drop at block)) e ∙ sym (take-take 12 26 (drop at block) (lit≤ tt))
 
 pub attributes-in : (block : List ℕ) (at : ℕ) → get_or block (at + 12) 0 ≡ attributes_of (part at 26 block)
-attributes-in block at = sym (get_d_part block at 26 12 (lit< tt))
+attributes-in block at = sym (get_or-part block at 26 12 (lit< tt))

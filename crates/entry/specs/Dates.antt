@@ -1,6 +1,6 @@
 -- Days of the calendar, and the three bytes that hold one. Assumes nothing.
---   days_in      the days of a month, by the Gregorian rule
---   is_day       a calendar day of the years that an entry can hold and the machine has seen, 1983 to 2155
+--   days_in   the days of a month, by the Gregorian rule
+--   is_day    a calendar day of the years that an entry can hold and the machine has seen, 1983 to 2155
 use Rattle.std.specs.Prelude.{ℕ, ◌%◌, Bool, cond, not, ◌&&◌, ◌||◌, ◌==◌, nat_le}
 
 -- Every fourth year, but of the full centuries only every fourth.

@@ -1,6 +1,6 @@
 -- The fields of an entry's 26 bytes. Assumes nothing.
 --   part, stored   what stands at a place of some bytes; bytes with others put over that place
---   entry_in        an entry of a directory block
+--   entry_in       an entry of a directory block
 --   word, long     the number in two or in four bytes, the low byte first; word_bytes and long_bytes write it
 --   bit            a bit of a byte, 0 the lowest
 --   name_of .. date_of, check_of, size_of, directory_of   the fields of an entry, by position

@@ -1,7 +1,7 @@
 -- What an entry is, by its number and its attributes. Assumes nothing.
 --   Case, Shown   the four kinds; a kind with the characters of the entry's name
 --   listed        what each answer of the code stands for
---   kind_of        the kind of the entry of a number in the directory block that holds it
+--   kind_of       the kind of the entry of a number in the directory block that holds it
 use Rattle.std.specs.Prelude.{ℕ, cond, List, Some, None, Option, ◌==◌, nat_le}
 use Rattle.names.specs.Names.{characters}
 use Rattle.entry.specs.Fields.{attributes_of, bit, entry_in, name_of}

@@ -1,5 +1,5 @@
 -- A file's length as its entry has it: used blocks, and bytes in the last of them. Assumes nothing.
---   split      the pair that a length has
+--   split       the pair that a length has
 --   length_of   the length of a pair, if some length has it
 use Rattle.std.specs.Prelude.{ℕ, ◌+◌, ◌-◌, ◌*◌, ◌/◌, cond, ◌&&◌, Some, None, Option, ◌==◌, nat_le}
 

@@ -1,5 +1,5 @@
 -- The line that is printed of a file. Assumes nothing.
---   letters    the attributes, a letter for each bit that is set and a dash for each that is not
+--   letters     the attributes, a letter for each bit that is set and a dash for each that is not
 --   name_text   a name with its type letter, the last character, set apart
 --   date_text   a date, or a dash
 --   row_text    the line of the entry with a number and its 26 bytes

@@ -1,8 +1,8 @@
 -- Pieces of text that the commands print. Assumes nothing.
---   escaped     bytes of a name as people can read them
---   left        a text with spaces behind it, up to a width; right: with spaces before it
---   two         a number in at least two digits
---   counted     so many of a thing, as `1 file` and `2 files`
+--   escaped   bytes of a name as people can read them
+--   left      a text with spaces behind it, up to a width; right: with spaces before it
+--   two       a number in at least two digits
+--   counted   so many of a thing, as `1 file` and `2 files`
 use Rattle.std.specs.Prelude.{ℕ, ◌+◌, ◌-◌, ◌/◌, ◌%◌, cond, List, [], ◌∷◌, ◌++◌, length, replicate, codes, decimal, ◌==◌, nat_lt}
 use Rattle.std.specs.List.{flat_map}
 use Rattle.names.specs.Names.{printable}

@@ -1,8 +1,8 @@
 -- What the catalogue prints of a pack. Assumes nothing.
---   count_that      how many of some entries pass a test
---   rows_text       the lines of some files
---   catalogue_text  what it prints where the directory was walked
---   catalogued     the catalogue of the pack on a device, or why there is none
+--   count_that       how many of some entries pass a test
+--   rows_text        the lines of some files
+--   catalogue_text   what it prints where the directory was walked
+--   catalogued       the catalogue of the pack on a device, or why there is none
 use Rattle.std.specs.Prelude.{ℕ, zero, suc, ◌+◌, ◌-◌, Bool, cond, List, [], ◌++◌, Some, None, Ok, Err, codes, decimal, Option, Result}
 use Rattle.refusal.specs.declared.Refusal.{Refusal}
 use Rattle.blocks.specs.Devices.{Device}

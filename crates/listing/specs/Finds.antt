@@ -1,7 +1,7 @@
 -- Finding a live file of a pack by its name. Assumes nothing.
 --   by_whole, by_stem   the first live file that a name fits, taken as a whole name or as a stem
---   looked_up          the file by its whole name or, where none fits, by its stem; or why there is none
---   found_text         what the find command prints
+--   looked_up           the file by its whole name or, where none fits, by its stem; or why there is none
+--   found_text          what the find command prints
 use Rattle.std.specs.Prelude.{ℕ, ◌-◌, Bool, cond, not, ◌&&◌, ◌||◌, List, ◌++◌, Some, None, Ok, Err, codes, Option, Result}
 use Rattle.refusal.specs.declared.Refusal.{Refusal}
 use Rattle.refusal.specs.declared.Refusal.TheVariants.{BadName, NoSuchFile}

@@ -1,9 +1,9 @@
 -- The directory of a device, read block by block. Assumes nothing.
 --   read_block     a block's bytes, or the refusal of it
 --   volume_holds   the volume's entry can be the first of a directory
---   Read          the bytes of the directory's blocks, one after the other, and how many blocks that is
---   loaded        the directory of a device, or why it cannot be had
---   Loads         how the code's answer stands to that
+--   Read           the bytes of the directory's blocks, one after the other, and how many blocks that is
+--   loaded         the directory of a device, or why it cannot be had
+--   Loads          how the code's answer stands to that
 use Rattle.std.specs.Prelude.{◌≡◌, ℕ, zero, suc, ◌+◌, ◌-◌, ◌*◌, ◌<◌, ◌≤◌, Bool, cond, ◌&&◌, List, ◌++◌, length, Some, None, Ok, Err, vec_items, Option, Result, nat_le}
 use Rattle.std.specs.Str.{bytes_eq}
 use Rattle.refusal.specs.declared.Refusal.{Refusal}

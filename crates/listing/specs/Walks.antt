@@ -1,5 +1,5 @@
 -- The walk through a directory whose blocks were read. Assumes nothing.
---   entry_at        the 26 bytes of an entry, where the bytes are those of the directory's blocks
+--   entry_at           the 26 bytes of an entry, where the bytes are those of the directory's blocks
 --   first_that         the first entry of some that passes a test
 --   directory_walked   the number of the BLOCKS LEFT entry, or why the directory cannot be walked
 use Rattle.std.specs.Prelude.{ℕ, zero, suc, ◌+◌, ◌-◌, ◌*◌, ◌/◌, ◌<◌, ◌≤◌, Bool, cond, not, ◌&&◌, List, length, is_some, Some, None, Ok, Err, Option, Result}

@@ -6,7 +6,7 @@ use Rattle.refusal.specs.declared.Refusal.{Refusal}
 use Rattle.blocks.specs.Devices.{Device, block_at, size_of}
 use Rattle.entry.specs.Fields.{first_of, last_of, room_of, used_of}
 use Rattle.entry.specs.Lengths.{length_of}
-use Rattle.entry.proofs.Parts.{get_d_part}
+use Rattle.entry.proofs.Parts.{get_or-part}
 use Rattle.directory.specs.Entries.{entry_at}
 use Rattle.directory.specs.Judgements.{judged, pack_of}
 use Rattle.directory.specs.declared.judgement.Pack.{Pack}
@@ -98,7 +98,7 @@ module _ (d : Device) (wide : (b : ℕ) → b < size_of d → length (block_at d
         let near = ltb-true i 1014 p.0 in
         let inside = ltb-true e (length (entries_of (pack_read d (pack_of d f.left)))) p.1 in
         ap (λ bytes. get_or bytes (i % 26) 0) (entry-is d f e (omega (arith, inside, entries-long d f)))
-        ∙ get_d_part (block_at d (1 + e / 39)) (26 * (e % 39)) 26 (i % 26) (omega arith)
+        ∙ get_or-part (block_at d (1 + e / 39)) (26 * (e % 39)) 26 (i % 26) (omega arith)
         ∙ ap₂ (λ b i. get_or (block_at d b) i 0) (let z : 1 + e / 39 ≡ b = omega arith in z) (let z : 26 * (e % 39) + i % 26 ≡ i = omega arith in z))
 
     pub laid-byte : (b i : ℕ) → i < 1024 → get_or (block_at d b) i 0 ≡ unwrap_or (layout_byte (pack_read d (pack_of d f.left)) b i) (get_or (block_at d b) i 0)

@@ -1,10 +1,10 @@
 -- A pack as it is made by initialise. Assumes nothing.
---   dated              the three bytes of a date, or three zeros
---   entry_bytes         the 26 bytes of an entry, from its fields
+--   dated                        the three bytes of a date, or three zeros
+--   entry_bytes                  the 26 bytes of an entry, from its fields
 --   volume_entry .. left_entry   the four entries of a fresh pack
---   fresh_pack          the pack
---   first_block         block 1, as it is written
---   initialised        the device after a granted initialise
+--   fresh_pack                   the pack
+--   first_block                  block 1, as it is written
+--   initialised                  the device after a granted initialise
 use Rattle.std.specs.Prelude.{ℕ, zero, suc, ◌+◌, ◌-◌, List, [], ◌∷◌, ◌++◌, replicate, Some, None, codes, Option, slice_set}
 use Rattle.blocks.specs.Devices.{Device}
 use Rattle.names.specs.Names.{name_field}

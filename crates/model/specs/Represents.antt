@@ -1,9 +1,9 @@
 -- What it means that a unit and its device stand for a model, and what a call promises of that. Assumes nothing.
---   Represents   the state and the device are what the model describes
+--   Represents    the state and the device are what the model describes
 --   layout_byte   the byte that the layout gives for a pack, at a byte of a block, if it gives one
---   Laid         a device has, wherever the layout gives a byte, that byte, and else the byte of another device
---   Turn, Turns  what a call promises of each model that is represented when it comes
---   Decided      what initialise and take up promise of any state and device
+--   Laid          a device has, wherever the layout gives a byte, that byte, and else the byte of another device
+--   Turn, Turns   what a call promises of each model that is represented when it comes
+--   Decided       what initialise and take up promise of any state and device
 use Rattle.std.specs.Prelude.{◌≡◌, ℕ, ◌+◌, ◌-◌, ◌*◌, ◌/◌, ◌%◌, ◌<◌, Bool, true, false, cond, ◌&&◌, List, [], ◌∷◌, ◌++◌, map, length, is_err, Some, None, Ok, Err, Option, Result, nat_le, nat_lt, slice_index, slice_index_or}
 use Rattle.std.specs.Option.{unwrap_or}
 use Rattle.refusal.specs.declared.Refusal.{Refusal}

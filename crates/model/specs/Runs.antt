@@ -1,8 +1,8 @@
 -- Whole lists of calls, on the model and on the device. Assumes nothing.
 --   answers, last_model   the replies to a list of calls, and the model after it
 --   device_after          the device after a call, from the model and the device before it
---   Origin               what a run counts from
---   Accounts             what holds of a pack, counted from an origin
+--   Origin                what a run counts from
+--   Accounts              what holds of a pack, counted from an origin
 use Rattle.std.specs.Prelude.{◌≡◌, ℕ, ◌+◌, ◌<◌, ◌≤◌, Bool, true, false, cond, List, [], ◌∷◌, length, is_err, Ok, Err, Result, slice_index_or}
 use Rattle.refusal.specs.declared.Refusal.{Refusal}
 use Rattle.blocks.specs.Devices.{Device, block_at}

@@ -1,9 +1,9 @@
 -- What each call replies, and what the model is after it: the first that applies of its refusals in order, else its
 -- effect. Assumes nothing.
 --   work_stage .. bad_stage   what refuses a call, a stage each
---   unless                  the refusal, if there is one, else the effect
---   first_file               the first of some files that passes a test
---   step                    the step of each call
+--   unless                    the refusal, if there is one, else the effect
+--   first_file                the first of some files that passes a test
+--   step                      the step of each call
 use Rattle.std.specs.Prelude.{ℕ, zero, suc, ◌+◌, Bool, true, false, cond, ◌&&◌, List, [], ◌∷◌, ◌++◌, length, drop, Some, None, Ok, Err, Option, Result, ◌==◌, nat_eq, nat_le, slice_index_or}
 use Rattle.std.specs.Option.{option_map, option_or}
 use Rattle.refusal.specs.declared.Refusal.{Refusal}

@@ -1,12 +1,12 @@
 -- Names: their characters, their rules, the field that holds one, and when an entry fits one. Assumes nothing.
 --   characters   the characters of a name as given, or of a name field: what stands before the first ETX, or all of it
---   same_name     two names have the same characters
---   is_whole      a name is a whole name: what a file may be called
---   is_stem       a name is a stem: a whole name without its type letter, its last character
---   is_volume     a name is a volume's name
---   name_field    the twelve bytes that hold a name: its characters, ETX, zeros
---   fits_whole    a whole name fits an entry with this name field
---   fits_stem     a stem fits an entry with this name field
+--   same_name    two names have the same characters
+--   is_whole     a name is a whole name: what a file may be called
+--   is_stem      a name is a stem: a whole name without its type letter, its last character
+--   is_volume    a name is a volume's name
+--   name_field   the twelve bytes that hold a name: its characters, ETX, zeros
+--   fits_whole   a whole name fits an entry with this name field
+--   fits_stem    a stem fits an entry with this name field
 use Rattle.std.specs.Prelude.{ℕ, ◌-◌, Bool, true, cond, not, ◌&&◌, ◌||◌, List, [], ◌∷◌, ◌++◌, length, take, replicate, codes, ◌==◌, nat_le}
 use Rattle.std.specs.Str.{bytes_eq}
 

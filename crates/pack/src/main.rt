@@ -7,6 +7,7 @@ use arguments::{Command, Medium, USAGE, complaint, read_arguments};
 use blocks::{BlockDevice, Image};
 use listing::{Failure, catalogue, find};
 use sectors::SectorDisk;
+use std::process::ExitCode;
 use std::{env, fs};
 
 // Says on standard error why nothing was done, and ends the program without success.
@@ -90,14 +91,23 @@ fn run(rt: &HostRuntime, command: Command<'_>) -> anyhow::Result<()> {
     }
 }
 
-fn main(rt: HostRuntime) -> anyhow::Result<()> {
-    let args: Vec<String> = env::args(&rt)?.skip(1).collect(rt.alloc())?;
+// Does what the arguments ask for, or says why not.
+fn perform(rt: &HostRuntime) -> anyhow::Result<()> {
+    let args: Vec<String> = env::args(rt)?.skip(1).collect(rt.alloc())?;
     match read_arguments(args.as_slice()) {
-        Ok(command) => run(&rt, command),
+        Ok(command) => run(rt, command),
         Err(misuse) => {
             let words = misuse.words();
             let line = format!(in rt.alloc(); "pack: {words}")?;
-            refuse(&rt, line.as_str())
+            refuse(rt, line.as_str())
         }
+    }
+}
+
+// The exit status alone: an error returned from `main` would be printed, and what there is to say was said.
+fn main(rt: HostRuntime) -> ExitCode {
+    match perform(&rt) {
+        Ok(()) => ExitCode::SUCCESS,
+        Err(_) => ExitCode::FAILURE,
     }
 }

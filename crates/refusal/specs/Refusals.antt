@@ -1,7 +1,7 @@
 -- What each refusal tells its caller. Assumes nothing.
---   listed    a refusal's number, layer and place
---   sentence  a refusal in words, for people
---   line      both on one line, as programs print them
+--   listed     a refusal's number, layer and place
+--   sentence   a refusal in words, for people
+--   line       both on one line, as programs print them
 use Rattle.std.specs.Prelude.{ℕ, ◌+◌, List, ◌++◌, codes, decimal}
 use Rattle.refusal.specs.declared.Refusal.{Refusal}
 use Rattle.refusal.specs.declared.Refusal.TheVariants.{OutOfRange, BadName, NoSuchFile, NoPack, BrokenLayout, BadBlock, WriteProtected}

@@ -1,8 +1,8 @@
 -- The law over every list of calls. Assumes nothing.
---   Ran       replies, state and device are those of a model that is fed the same calls
---   Begins    a list begins with an initialise or a take up that is granted
---   RunLaw    the law
---   Composes  a list in two parts is one list
+--   Ran        replies, state and device are those of a model that is fed the same calls
+--   Begins     a list begins with an initialise or a take up that is granted
+--   RunLaw     the law
+--   Composes   a list in two parts is one list
 use Rattle.std.specs.Prelude.{◌≡◌, true, false, List, ◌∷◌, ◌++◌}
 use Rattle.blocks.specs.Devices.{Device}
 use Rattle.directory.specs.Layouts.{Follows}

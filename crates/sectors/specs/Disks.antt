@@ -1,9 +1,9 @@
 -- The meaning of a sector disk: records handed in, as a device. Assumes nothing.
 --   record_count, block_count   the records and the blocks of a disk; a block is two sectors
 --   sector_bytes, status_at     the 512 bytes of a sector and its status byte, 0 if it is good
---   disk_of                    the device that the records are
---   sector_in                  the sector that a record keeps
---   encoded_disk               the records that a device's blocks are, with given status bytes
+--   disk_of                     the device that the records are
+--   sector_in                   the sector that a record keeps
+--   encoded_disk                the records that a device's blocks are, with given status bytes
 use Rattle.std.specs.Prelude.{ℕ, ◌+◌, ◌*◌, ◌/◌, ◌%◌, Bool, cond, ◌&&◌, List, [], ◌∷◌, ◌++◌, length, take, drop, ◌==◌, slice_index}
 use Rattle.std.specs.List.{flat_map}
 use Rattle.blocks.specs.Devices.{Device, block_at}

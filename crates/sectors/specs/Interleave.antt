@@ -1,5 +1,5 @@
 -- The interleave of a disk: the record that keeps each of its sectors. Assumes nothing.
---   record_of         the record of a sector, where a track has `sectors` sectors and the interleave goes by `step`
+--   record_of        the record of a sector, where a track has `sectors` sectors and the interleave goes by `step`
 --   SharesNoFactor   no number but 1 divides both
 --   Interleaves      no two sectors of a disk share a record, every record is some sector's, and none lies off the disk
 --   track_count, sector_count, step_size   the disk's shape: its tracks, the sectors of a track, the step

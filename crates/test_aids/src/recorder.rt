@@ -1,6 +1,5 @@
 // A device that keeps a record of the blocks that are read.
 ghost use Rattle.std.specs.Prelude.{◌≡◌};
-ghost use Rattle.std.proofs.Common.{rules};
 
 use blocks::{BlockDevice, Fault, Tab};
 use std::alloc::Global;
@@ -58,13 +57,13 @@ impl<D> Recorder<D, Reads> {
 impl<D: BlockDevice, L: Log> BlockDevice for Recorder<D, L> {
     ghost meaning = { λ x. D.BlockDevice.meaning x.inner };
 
-    ghost sized = { Prim.search rules };
+    ghost sized = { λ x. D.BlockDevice.sized x.inner };
 
-    ghost wide = { Prim.search rules };
+    ghost wide = { λ x. D.BlockDevice.wide x.inner };
 
-    ghost bytes = { Prim.search rules };
+    ghost bytes = { λ x. D.BlockDevice.bytes x.inner };
 
-    ghost marked = { Prim.search rules };
+    ghost marked = { λ x. D.BlockDevice.marked x.inner };
 
     ghost shallow = { λ x b. D.BlockDevice.shallow x.inner b };
 

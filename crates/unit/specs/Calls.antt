@@ -1,10 +1,10 @@
 -- What the methods of a unit answer, from its state and its device. Assumes nothing.
---   done, number     what a call without and with a number replies
---   after            the refusal of a stage, or what comes after it
+--   done, number               what a call without and with a number replies
+--   after                      the refusal of a stage, or what comes after it
 --   refusal_on, Writable, Admitted   why initialise is refused, and what is known where it is not
---   fresh_state, Initialised         what initialise leaves
---   state_taken       what a unit knows after a take up
---   file_found, file_shown   the file that find and show are about, or why there is none
+--   fresh_state, Initialised   what initialise leaves
+--   state_taken                what a unit knows after a take up
+--   file_found, file_shown     the file that find and show are about, or why there is none
 use Rattle.std.specs.Prelude.{◌≡◌, ℕ, ◌+◌, ◌-◌, ◌<◌, cond, ◌&&◌, List, [], Some, None, Ok, Err, Option, Result, nat_le, nat_lt}
 use Rattle.std.specs.Option.{option_map, option_or}
 use Rattle.refusal.specs.declared.Refusal.{Refusal}
