@@ -8,29 +8,29 @@ use Rattle.runs.proofs.running.run.Goals as goal
 
 pub returns-in_err-replies : goal.returns-in_err-replies
 returns-in_err-replies g c =
-    let exit = err_from_is_err_and c.from-residual.result c.from-residual.ensures.1 in
-    record { law = err-cases _ c.from-residual.result exit.0 exit.1 refl; compose = composes }
+    let exit = err_from_is_err_and c.from_residual.result c.from_residual.ensures.1 in
+    record { law = err-cases _ c.from_residual.result exit.0 exit.1 refl; compose = composes }
 
 pub loop-request-preserved : goal.loop-request-preserved
 loop-request-preserved g c =
     let steps = c.in-Some.ensures.steps in (
       tt,
       tt,
-      sofar-next c.args.unit.now.state (g.D.BlockDevice.meaning c.args.unit.now.device) (map meant (into_iter_items c.into-iter-request-iterator.result))
-          (map meant (into_iter_items c.loop-request.request-iterator)) (map told (vec_items c.loop-request.replies)) (map told (vec_items c.push-reserved.new.self))
+      sofar-next c.args.unit.now.state (g.D.BlockDevice.meaning c.args.unit.now.device) (map meant (into_iter_items c.into_iter-request-iterator.result))
+          (map meant (into_iter_items c.loop-request.request-iterator)) (map told (vec_items c.loop-request.replies)) (map told (vec_items c.push_reserved.new.self))
           c.loop-request.unit.state c.perform.new.unit.state (g.D.BlockDevice.meaning c.loop-request.unit.device) (g.D.BlockDevice.meaning c.perform.new.unit.device)
           (meant c.in-Some.request) (map meant (into_iter_items c.next.new.self)) (told c.perform.result) (g.met.D.BlockDevice.sized c.loop-request.unit.device).1
-          (ap (map meant) steps.0) (ap (map told) c.push-reserved.ensures.items ∙ map-append told (vec_items c.loop-request.replies) (c.perform.result ∷ []))
+          (ap (map meant) steps.0) (ap (map told) c.push_reserved.ensures.items ∙ map-append told (vec_items c.loop-request.replies) (c.perform.result ∷ []))
           c.loop-request.invariant.2 c.perform.ensures,
-      omega (arith, c.loop-request.invariant.3, steps.1, c.push-reserved.ensures.len, c.push-reserved.ensures.capacity),
+      omega (arith, c.loop-request.invariant.3, steps.1, c.push_reserved.ensures.len, c.push_reserved.ensures.capacity),
     )
 
 pub returns : goal.returns
 returns g c =
     record {
-      law = law-of c.args.unit.now.state (g.D.BlockDevice.meaning c.args.unit.now.device) (map meant (into_iter_items c.into-iter-request-iterator.result))
+      law = law-of c.args.unit.now.state (g.D.BlockDevice.meaning c.args.unit.now.device) (map meant (into_iter_items c.into_iter-request-iterator.result))
           (map meant (vec_items c.args.requests)) (map meant (into_iter_items c.loop-request.request-iterator)) (map told (vec_items c.loop-request.replies))
           c.loop-request.unit.state (g.D.BlockDevice.meaning c.loop-request.unit.device)
-          (ap (map meant) (no_items (into_iter_items c.loop-request.request-iterator) (sym c.loop-request.request-iterator.rest.ok.0 ∙ c.in-None.ensures.steps.0))) (ap (map meant) c.into-iter-request-iterator.ensures.into-iter-gives.0) c.loop-request.invariant.2;
+          (ap (map meant) (no_items (into_iter_items c.loop-request.request-iterator) (sym c.loop-request.request-iterator.rest.ok.0 ∙ c.in-None.ensures.steps.0))) (ap (map meant) c.into_iter-request-iterator.ensures.into_iter_gives.0) c.loop-request.invariant.2;
       compose = composes;
     }
