@@ -1,5 +1,5 @@
 -- What arguments ask for, from the argument that was looked at. Assumes nothing.
-use Rattle.std.proofs.Common.{◌≡◌, ℕ, ◌-◌, ◌<◌, ◌≤◌, Bool, cond, List, [], ◌∷◌, map, length, get_or, take, drop, codes, sym, refl, ap, ◌∙◌, ap₂, arith}
+use Rattle.std.proofs.Common.{◌≡◌, ℕ, ◌-◌, ◌<◌, Bool, cond, List, [], ◌∷◌, map, length, get_or, take, drop, codes, refl, ap, ◌∙◌, ap₂, arith}
 use Rattle.std.specs.Str.{bytes_eq}
 use Rattle.std.proofs.lemmas.List.{take_all}
 use Rattle.arguments.specs.Commands.{asked, catalogue, catalogue_asked, find, find_asked, help, medium_asked, misuse, name_asked, name_of, places_asked}

@@ -1,6 +1,6 @@
 -- Digits read one by one. Assumes nothing.
 use Rattle.std.proofs.Common.{◌≡◌, ℕ, ◌+◌, ◌<◌, List, [], ◌∷◌, length, get_or, drop, Some, None, Option, sym, refl, ap, ◌∙◌, arith}
-use Rattle.std.proofs.lemmas.List.{at_drop_more, at_drop_all}
+use Rattle.std.proofs.lemmas.List.{at_drop_more}
 use Rattle.console.specs.Numbers.{number_of, with_digit, with_digits}
 
 pub some-digits : (field : List ℕ) → (length field ≡ 0 → ⊥) → with_digits (Some 0) field ≡ number_of field

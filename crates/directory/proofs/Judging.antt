@@ -1,12 +1,11 @@
 -- How the first entry at fault stands to the layout. Assumes nothing.
-use Rattle.std.proofs.Common.{◌≡◌, ℕ, ◌+◌, ◌-◌, ◌*◌, ◌<◌, ◌≤◌, Bool, true, false, not, ◌⊎◌, Some, None, Option, sym, refl, ap, ◌∙◌, subst, inl, inr, arith}
+use Rattle.std.proofs.Common.{◌≡◌, ℕ, ◌-◌, ◌*◌, ◌<◌, ◌≤◌, true, false, ◌⊎◌, Some, None, Option, sym, refl, ap, ◌∙◌, subst, inl, inr, arith}
 use Rattle.std.proofs.lemmas.Bool.{cases_eq, cases_lt, cases_order, not-false, not_from_true, true≢false}
 use Rattle.std.specs.Option.{option_or}
 use Rattle.blocks.specs.Devices.{Device}
-use Rattle.entry.specs.Fields.{first_of}
 use Rattle.directory.specs.Entries.{entry_at}
 use Rattle.directory.specs.Judgements.{AtFault, Holds, LayoutLaw, Unended, blocks_left_at, files_fault, holds, is_broken, is_left_at, layout_fault}
-use Rattle.directory.specs.Layouts.{Follows, IsBlocksLeft, directory_blocks, end_of, pack_blocks}
+use Rattle.directory.specs.Layouts.{Follows, IsBlocksLeft, directory_blocks, end_of}
 use Rattle.directory.specs.Lookups.{first_that, is_blocks_left}
 use Rattle.directory.proofs.Firsts.{IsFirst, first-is, same_first}
 use Rattle.directory.proofs.Testing.{holds-is, is-holds}

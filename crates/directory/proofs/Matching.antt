@@ -1,12 +1,12 @@
 -- The search, one entry on and at its end, and what its answer says of the files. Assumes nothing.
-use Rattle.std.proofs.Common.{◌≡◌, ℕ, ◌+◌, ◌-◌, ◌*◌, ◌<◌, ◌≤◌, Bool, true, false, cond, not, ◌&&◌, ◌||◌, ◌⊎◌, List, length, is_some, Some, None, Ok, Err, Option, Result, sym, refl, ap, ◌∙◌, subst, inl, inr, arith}
+use Rattle.std.proofs.Common.{◌≡◌, ℕ, ◌+◌, ◌-◌, ◌*◌, ◌<◌, ◌≤◌, Bool, true, false, cond, not, ◌||◌, ◌⊎◌, List, length, is_some, Some, None, Ok, Err, Option, Result, sym, refl, ap, ◌∙◌, subst, inl, inr, arith}
 use Rattle.std.proofs.lemmas.Bool.{and_from, and_parts, cases_eq, cases_lt, not_from_false, not-true, or_from, or_left, or_parts, or_right, true≢false}
 use Rattle.refusal.specs.declared.Refusal.{Refusal}
 use Rattle.blocks.specs.Devices.{Device, block_at, outcome, read_fault, refusal_of}
 use Rattle.blocks.specs.declared.faults.Fault.{Fault}
 use Rattle.entry.specs.Fields.{entry_in}
 use Rattle.directory.specs.Entries.{entry_at, heard_as, holder_of}
-use Rattle.directory.specs.Lookups.{FirstMatch, IsFile, Match, Readable, LookupLaw, Unread, ends_at, first_that, found_at, is_blocks_left, is_deleted, is_match, said, said_at, lookup_reply}
+use Rattle.directory.specs.Lookups.{FirstMatch, Match, Readable, LookupLaw, Unread, ends_at, first_that, found_at, is_blocks_left, is_deleted, is_match, said, said_at, lookup_reply}
 use Rattle.directory.specs.declared.lookups.Found.{Found}
 use Rattle.directory.proofs.Carrying.{Held}
 use Rattle.directory.proofs.Firsts.{IsFirst, first-here, first-is, first_on}

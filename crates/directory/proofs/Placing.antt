@@ -1,11 +1,10 @@
 -- Where an entry stands: the laws of putting one there. Assumes nothing.
-use Rattle.std.proofs.Common.{◌≡◌, ℕ, ◌+◌, ◌-◌, ◌*◌, ◌/◌, ◌%◌, ◌<◌, ◌≤◌, ◌⊎◌, List, [], length, get_or, take, drop, set, Some, None, Option, sym, refl, ap, ◌∙◌, inl, inr, arith}
+use Rattle.std.proofs.Common.{◌≡◌, ℕ, ◌+◌, ◌*◌, ◌%◌, ◌<◌, ◌≤◌, ◌⊎◌, List, [], length, get_or, take, drop, sym, refl, ap, ◌∙◌, inl, inr, arith}
 use Rattle.std.proofs.lemmas.List.{get_or-set_other, get_or-set_same, length-set}
 use Rattle.std.proofs.lemmas.Bool.{cases_eq, cases_order}
-use Rattle.blocks.specs.Devices.{Device, block_at, refusal_of, size_of}
-use Rattle.blocks.specs.declared.faults.Fault.{Fault}
+use Rattle.blocks.specs.Devices.{Device, block_at, size_of}
 use Rattle.blocks.specs.Imaging.{part-aside, part-itself, stored-before, stored-behind}
-use Rattle.entry.specs.Fields.{entry_in, stored}
+use Rattle.entry.specs.Fields.{entry_in}
 use Rattle.directory.specs.Entries.{EntryLaws, entry_at, holder_of, put_entry, put_in}
 
 -- the block that holds an entry, after the entry was put there

@@ -1,10 +1,10 @@
 -- What the tests of an entry decide: an entry holds exactly if its test says so. Assumes nothing.
-use Rattle.std.proofs.Common.{◌≡◌, ℕ, zero, suc, ◌+◌, ◌-◌, ◌*◌, ◌/◌, ◌<◌, ◌≤◌, Bool, true, false, cond, ◌&&◌, ◌||◌, eqb, ltb, leb, ◌⊎◌, List, [], ◌∷◌, length, get_or, is_some, Some, None, Option, sym, refl, ap, ◌∙◌, subst, ap₂, inl, inr, arith}
+use Rattle.std.proofs.Common.{◌≡◌, ℕ, zero, suc, ◌+◌, ◌-◌, ◌*◌, ◌/◌, ◌≤◌, Bool, true, false, cond, ◌&&◌, ◌||◌, eqb, ltb, leb, ◌⊎◌, List, [], ◌∷◌, length, get_or, is_some, Some, None, sym, refl, ap, ◌∙◌, ap₂, inl, inr, arith}
 use Rattle.std.proofs.lemmas.Bool.{and_from, and_parts, cases_Bool, cases_eq, cond-false, cond-true, eq-eqb, eqb-true, le-leb, le-ltb, leb-true, lt-ltb, ltb-false, ltb-true, ne_eqb, or_cases, or_left, or_right, true≢false}
 use Rattle.std.specs.Str.{bytes_eq}
 use Rattle.blocks.specs.Devices.{Device, size_of}
 use Rattle.names.specs.Names.{characters}
-use Rattle.entry.specs.Fields.{check_bytes, check_of, directory_of, first_of, last_of, name_of, room_of, size_of as volume_size, used_of}
+use Rattle.entry.specs.Fields.{check_bytes, check_of, first_of, last_of, name_of, room_of, used_of}
 use Rattle.entry.specs.Lengths.{blocks_for, length_of, split}
 use Rattle.directory.specs.Entries.{entry_at}
 use Rattle.directory.specs.Judgements.{Holds, file_holds, has_etx, holds, is_placed, later_holds, live_holds, volume_holds}

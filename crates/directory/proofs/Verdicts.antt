@@ -1,5 +1,5 @@
 -- What the judgement's answer says of the device. Assumes nothing.
-use Rattle.std.proofs.Common.{◌≡◌, ℕ, zero, suc, ◌+◌, ◌-◌, ◌*◌, ◌<◌, ◌≤◌, Bool, true, false, cond, not, eqb, leb, ◌⊎◌, Some, None, Ok, Err, Option, Result, unwrap_or, sym, refl, ap, ◌∙◌, subst, inl, inr, arith}
+use Rattle.std.proofs.Common.{◌≡◌, ℕ, zero, suc, ◌+◌, ◌-◌, ◌<◌, ◌≤◌, Bool, true, false, cond, not, eqb, leb, ◌⊎◌, Some, None, Ok, Err, Option, Result, unwrap_or, sym, refl, ap, ◌∙◌, subst, inl, inr, arith}
 use Rattle.std.proofs.lemmas.Bool.{and_left, cases_eq, cond-false, cond-true, eq-eqb, eqb-false, le-leb, lt-leb, ne_eqb}
 use Rattle.std.specs.Option.{option_or}
 use Rattle.refusal.specs.declared.Refusal.{Refusal}
@@ -8,7 +8,7 @@ use Rattle.blocks.specs.Devices.{Device, outcome, read_fault, refusal_of, size_o
 use Rattle.blocks.specs.declared.faults.Fault.{Fault}
 use Rattle.blocks.specs.declared.faults.Fault.TheVariants.{OutOfRange as FaultRange, WriteProtected, BadBlock}
 use Rattle.directory.specs.Entries.{entry_at, heard_as}
-use Rattle.directory.specs.Judgements.{Granted, JudgementLaw, blocks_left_at, files_fault, first_unread, holds, is_broken, judged, layout_fault, pack_of, unless_fault, verdict, volume_holds, volume_judged}
+use Rattle.directory.specs.Judgements.{JudgementLaw, blocks_left_at, files_fault, first_unread, is_broken, judged, layout_fault, pack_of, unless_fault, verdict, volume_holds, volume_judged}
 use Rattle.directory.specs.Layouts.{Follows, directory_blocks}
 use Rattle.directory.specs.Lookups.{Readable, first_that}
 use Rattle.directory.specs.declared.judgement.Pack.{Pack}

@@ -1,12 +1,12 @@
 -- The entries of a fresh pack: how long they are, and what their fields hold. Assumes nothing.
-use Rattle.std.proofs.Common.{◌≡◌, ℕ, ◌+◌, ◌-◌, ◌*◌, ◌/◌, ◌%◌, ◌<◌, ◌≤◌, Bool, true, ◌&&◌, leb, List, [], ◌∷◌, ◌++◌, length, get_or, take, drop, replicate, Some, None, Option, sym, refl, ap, ◌∙◌, subst, arith}
+use Rattle.std.proofs.Common.{◌≡◌, ℕ, ◌+◌, ◌-◌, ◌*◌, ◌/◌, ◌%◌, ◌≤◌, true, leb, List, ◌∷◌, ◌++◌, length, get_or, take, drop, replicate, Some, None, Option, sym, refl, ap, ◌∙◌, arith}
 use Rattle.std.proofs.lemmas.List.{drop_at, drop-drop, get_or-append_right, length-append, length-replicate, take_at}
 use Rattle.std.proofs.lemmas.Bool.{and_parts, leb-true}
 use Rattle.names.specs.Names.{all_printable, characters, is_volume, name_field}
-use Rattle.entry.specs.Fields.{attributes_of, check_bytes, check_of, directory_of, first_of, long_bytes, room_of, size_of, word_bytes}
+use Rattle.entry.specs.Fields.{check_bytes, check_of, directory_of, first_of, long_bytes, room_of, size_of}
 use Rattle.entry.specs.declared.stamp.Stamp.{Stamp}
 use Rattle.directory.specs.Lookups.{is_blocks_left}
-use Rattle.model.specs.Fresh.{boot_entry, dated, directory_entry, entry_bytes, left_entry, volume_entry}
+use Rattle.model.specs.Fresh.{boot_entry, dated, directory_entry, left_entry, volume_entry}
 
 pub field-long : (name : List ℕ) → is_volume name ≡ true → length (name_field name) ≡ 12
 field-long name h =

@@ -1,25 +1,23 @@
 -- A device after a granted initialise: it follows the layout, and the pack on it is the fresh one. Assumes nothing.
-use Rattle.std.proofs.Common.{◌≡◌, ℕ, zero, suc, ◌+◌, ◌-◌, ◌*◌, ◌/◌, ◌%◌, ◌<◌, ◌≤◌, Bool, true, false, cond, ◌&&◌, eqb, ltb, leb, ◌⊎◌, List, [], ◌∷◌, ◌++◌, length, get_or, take, drop, set, replicate, Some, None, Ok, Err, Option, Result, sym, refl, ap, ◌∙◌, subst, inl, inr, arith}
+use Rattle.std.proofs.Common.{◌≡◌, ℕ, zero, suc, ◌+◌, ◌-◌, ◌<◌, ◌≤◌, true, cond, eqb, ltb, ◌⊎◌, List, [], length, get_or, take, set, replicate, Some, None, Ok, Option, Result, sym, refl, ap, ◌∙◌, subst, inl, inr, arith}
 use Rattle.std.proofs.lemmas.List.{get_or-set_other, get_or-set_same, length-set}
 use Rattle.std.proofs.lemmas.Bool.{and_from, cases_eq, cases_lt, lt-ltb}
-use Rattle.std.specs.Option.{option_map, option_or}
+use Rattle.std.specs.Option.{option_or}
 use Rattle.refusal.specs.declared.Refusal.{Refusal}
-use Rattle.blocks.specs.Devices.{Device, block_at, in_range, mark_at, mark_fault, read_fault, size_of}
+use Rattle.blocks.specs.Devices.{Device, block_at, mark_at, mark_fault, read_fault, size_of}
 use Rattle.blocks.specs.declared.faults.Fault.{Fault}
 use Rattle.blocks.specs.declared.faults.Fault.TheVariants.{OutOfRange}
-use Rattle.blocks.specs.declared.faults.Mark.{Mark}
-use Rattle.blocks.specs.declared.faults.Mark.TheVariants.{Sound}
 use Rattle.names.specs.Names.{is_volume}
-use Rattle.entry.specs.Fields.{check_bytes, check_of, directory_of, entry_in, first_of, room_of, size_of as volume_size}
+use Rattle.entry.specs.Fields.{check_of, directory_of, entry_in, first_of, room_of, size_of as volume_size}
 use Rattle.entry.specs.declared.stamp.Stamp.{Stamp}
 use Rattle.directory.specs.Entries.{entry_at}
 use Rattle.directory.specs.Judgements.{judged, pack_of}
-use Rattle.directory.specs.Layouts.{Follows, IsBlocksLeft, directory_blocks, end_of, pack_blocks}
+use Rattle.directory.specs.Layouts.{Follows, directory_blocks, end_of, pack_blocks}
 use Rattle.directory.specs.Lookups.{Readable, is_blocks_left}
 use Rattle.directory.specs.declared.judgement.Pack.{Pack}
 use Rattle.directory.proofs.Verdicts.{judgement-law}
 use Rattle.model.specs.Fresh.{boot_entry, directory_entry, first_block, fresh_pack, initialised, left_entry, volume_entry, zeroed}
-use Rattle.model.specs.Models.{PackModel, files_from, pack_found, pack_on, pack_read}
+use Rattle.model.specs.Models.{PackModel, pack_found, pack_on, pack_read}
 use Rattle.model.specs.Runs.{Accounts}
 use Rattle.model.specs.Steps.{first_bad}
 use Rattle.model.proofs.Accounting.{accounts}

@@ -1,20 +1,20 @@
 -- A device has the bytes that the layout gives for the pack on it. Assumes nothing.
-use Rattle.std.proofs.Common.{◌≡◌, ℕ, zero, suc, ◌+◌, ◌-◌, ◌*◌, ◌/◌, ◌%◌, ◌<◌, ◌≤◌, Bool, true, false, cond, ◌&&◌, ltb, leb, ◌⊎◌, List, [], ◌∷◌, ◌++◌, length, get_or, take, Some, None, Ok, Err, Option, Result, unwrap_or, sym, refl, ap, ◌∙◌, subst, ap₂, inl, inr, arith}
+use Rattle.std.proofs.Common.{◌≡◌, ℕ, zero, suc, ◌+◌, ◌-◌, ◌*◌, ◌/◌, ◌%◌, ◌<◌, ◌≤◌, Bool, true, false, cond, ◌&&◌, ltb, leb, ◌⊎◌, List, [], length, get_or, Some, None, Ok, Err, Option, Result, unwrap_or, sym, refl, ap, ◌∙◌, ap₂, inl, inr, arith}
 use Rattle.std.proofs.lemmas.List.{get_or_append_left, get_or-append_right, get_or-take, length-append, length-take}
-use Rattle.std.proofs.lemmas.Bool.{and_parts, cases_Bool, cases_lt, leb-true, ltb-true}
+use Rattle.std.proofs.lemmas.Bool.{and_parts, cases_lt, leb-true, ltb-true}
 use Rattle.refusal.specs.declared.Refusal.{Refusal}
 use Rattle.blocks.specs.Devices.{Device, block_at, size_of}
-use Rattle.entry.specs.Fields.{first_of, last_of, room_of, used_of}
+use Rattle.entry.specs.Fields.{first_of, last_of, used_of}
 use Rattle.entry.specs.Lengths.{length_of}
 use Rattle.entry.proofs.Parts.{get_or-part}
 use Rattle.directory.specs.Entries.{entry_at}
 use Rattle.directory.specs.Judgements.{judged, pack_of}
 use Rattle.directory.specs.declared.judgement.Pack.{Pack}
 use Rattle.directory.proofs.Verdicts.{judgement-law}
-use Rattle.directory.specs.Layouts.{Follows, directory_blocks, end_of, pack_blocks}
+use Rattle.directory.specs.Layouts.{Follows, directory_blocks, end_of}
 use Rattle.directory.specs.Lookups.{is_deleted}
-use Rattle.model.specs.Models.{File, Model, PackModel, blocks_from, content_of, file_of, files_from, pack_found, pack_on, pack_read}
-use Rattle.model.specs.Represents.{Laid, directory_byte, entries_of, entry_byte, held_byte, layout_byte, layout_byte_of, room_byte}
+use Rattle.model.specs.Models.{Model, blocks_from, content_of, file_of, files_from, pack_found, pack_on, pack_read}
+use Rattle.model.specs.Represents.{Laid, directory_byte, entries_of, held_byte, layout_byte, layout_byte_of, room_byte}
 use Rattle.model.proofs.Accounting.{entries-long, entry-is, ordered}
 
 -- where the layout gives a byte, it is this one

@@ -1,14 +1,11 @@
 -- What the lookup and an entry's number give, on a pack that was judged, are the model's files. Assumes nothing.
-use Rattle.std.proofs.Common.{◌≡◌, ℕ, zero, suc, ◌+◌, ◌-◌, ◌*◌, ◌<◌, ◌≤◌, Bool, true, false, cond, ◌&&◌, ◌||◌, eqb, ◌⊎◌, List, [], ◌∷◌, is_some, Some, None, Ok, Err, Option, Result, sym, refl, ap, ◌∙◌, subst, inl, inr, arith}
+use Rattle.std.proofs.Common.{◌≡◌, ℕ, zero, suc, ◌+◌, ◌-◌, ◌*◌, ◌<◌, ◌≤◌, Bool, true, false, cond, eqb, ◌⊎◌, List, is_some, Some, None, Ok, sym, refl, ap, ◌∙◌, subst, inl, inr, arith}
 use Rattle.std.proofs.lemmas.Bool.{cases_eq, eq-eqb, ne_eqb, or_from, or_left, or_right}
-use Rattle.refusal.specs.declared.Refusal.{Refusal}
 use Rattle.blocks.specs.Devices.{Device, read_fault}
 use Rattle.directory.specs.Entries.{entry_at, holder_of}
-use Rattle.directory.specs.Judgements.{Granted, judged, pack_of}
-use Rattle.directory.specs.Layouts.{IsBlocksLeft, directory_blocks}
+use Rattle.directory.specs.Judgements.{judged}
 use Rattle.directory.specs.Lookups.{Readable, ends_at, first_that, found_at, is_blocks_left, is_match, lookup_reply, said, said_at}
 use Rattle.directory.specs.declared.judgement.Pack.{Pack}
-use Rattle.directory.specs.declared.lookups.Found.{Found}
 use Rattle.directory.proofs.Firsts.{first-here, first_on}
 use Rattle.directory.proofs.Verdicts.{judgement-law}
 use Rattle.model.specs.Models.{File, files_from}

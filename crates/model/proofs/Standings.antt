@@ -1,23 +1,20 @@
 -- Each call keeps what holds of the pack that is up. Assumes nothing.
-use Rattle.std.proofs.Common.{◌≡◌, ℕ, ◌+◌, ◌-◌, ◌<◌, ◌≤◌, Bool, true, false, cond, ◌&&◌, eqb, leb, List, [], ◌∷◌, length, is_err, Some, None, Ok, Err, Option, Result, sym, refl, ap, ◌∙◌, subst, ap₂, arith}
+use Rattle.std.proofs.Common.{◌≡◌, ℕ, ◌-◌, ◌≤◌, Bool, true, false, cond, eqb, List, [], is_err, Some, None, Ok, Err, Option, Result, sym, refl, ◌∙◌, subst, arith}
 use Rattle.std.proofs.lemmas.Bool.{true≢false}
-use Rattle.std.specs.Option.{option_map, option_or}
 use Rattle.refusal.specs.declared.Refusal.{Refusal}
 use Rattle.refusal.specs.declared.Refusal.TheVariants.{OutOfRange}
-use Rattle.blocks.specs.Devices.{Device, block_at, size_of}
+use Rattle.blocks.specs.Devices.{Device, size_of}
 use Rattle.entry.specs.Dates.{is_day}
-use Rattle.entry.specs.declared.stamp.Stamp.{Stamp}
-use Rattle.directory.specs.Judgements.{judged, pack_of}
+use Rattle.directory.specs.Judgements.{judged}
 use Rattle.directory.specs.Lookups.{is_match}
 use Rattle.directory.specs.declared.judgement.Pack.{Pack}
 use Rattle.directory.specs.declared.lookups.Found.{Found}
 use Rattle.directory.proofs.Verdicts.{judgement-law}
 use Rattle.model.specs.Fresh.{fresh_pack, initialised}
 use Rattle.model.specs.Models.{Model, PackModel, files_from, model_of, pack_found, pack_on, pack_read}
-use Rattle.model.specs.Represents.{Represents}
-use Rattle.model.specs.Requests.{Reply, Request, find, initialise, set_date, show, take_up}
+use Rattle.model.specs.Requests.{Request, find, initialise, set_date, show, take_up}
 use Rattle.model.specs.Runs.{Accounts, Origin, Standing, counted, device_after, first_origin, is_refused, opens, origin_after, rooms}
-use Rattle.model.specs.Steps.{Step, dated_model, done_step, files_of, find_refusal, find_step, first_bad, first_file, fits_name, initialise_refusal, refused_step, set_date_step, show_refusal, show_step, shown_step, step, take_up_step, taken_up, unless, up_model, work_stage}
+use Rattle.model.specs.Steps.{dated_model, done_step, files_of, find_refusal, first_file, fits_name, initialise_refusal, refused_step, set_date_step, show_refusal, shown_step, step, taken_up, unless, up_model, work_stage}
 use Rattle.model.specs.declared.state.State.{State}
 use Rattle.model.proofs.Accounting.{accounts}
 use Rattle.model.proofs.Freshness.{fresh-accounts}

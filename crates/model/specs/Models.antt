@@ -5,7 +5,7 @@
 --   pack_on     the pack on a device, or why it does not follow the layout
 --   empty_state the state of a unit that was just made
 --   model_of    the model that a state and a device stand for
-use Rattle.std.specs.Prelude.{ℕ, zero, suc, ◌+◌, ◌-◌, Bool, cond, List, [], ◌∷◌, ◌++◌, take, replicate, is_some, Some, None, Ok, Err, Option, Result}
+use Rattle.std.specs.Prelude.{ℕ, zero, suc, ◌+◌, ◌-◌, Bool, cond, List, [], ◌∷◌, ◌++◌, take, replicate, is_some, None, Ok, Err, Option, Result}
 use Rattle.std.specs.Option.{option_map, unwrap_or}
 use Rattle.refusal.specs.declared.Refusal.{Refusal}
 use Rattle.blocks.specs.Devices.{Device, block_at, size_of}

@@ -3,8 +3,7 @@
 --   device_after          the device after a call, from the model and the device before it
 --   Origin                what a run counts from
 --   Accounts              what holds of a pack, counted from an origin
-use Rattle.std.specs.Prelude.{◌≡◌, ℕ, ◌+◌, ◌<◌, ◌≤◌, Bool, true, false, cond, List, [], ◌∷◌, length, is_err, Ok, Err, Result, slice_index_or}
-use Rattle.refusal.specs.declared.Refusal.{Refusal}
+use Rattle.std.specs.Prelude.{◌≡◌, ℕ, ◌+◌, ◌<◌, ◌≤◌, Bool, true, false, cond, List, [], ◌∷◌, length, is_err, Ok, slice_index_or}
 use Rattle.blocks.specs.Devices.{Device, block_at}
 use Rattle.entry.specs.Fields.{first_of, room_of}
 use Rattle.directory.specs.Layouts.{end_of}

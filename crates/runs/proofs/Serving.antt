@@ -1,5 +1,5 @@
 -- A call that changes nothing, made by its value. Assumes nothing.
-use Rattle.std.proofs.Common.{◌≡◌, ℕ, true, false, List, sym, refl, ap, ◌∙◌, subst}
+use Rattle.std.proofs.Common.{◌≡◌, ℕ, false, List, sym, ◌∙◌, subst}
 use Rattle.std.proofs.lemmas.Bool.{true≢false}
 use Rattle.blocks.specs.Devices.{Device}
 use Rattle.model.specs.Models.{model_of}

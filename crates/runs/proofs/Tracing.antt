@@ -1,5 +1,5 @@
 -- A run, one call on and at its end. Assumes nothing.
-use Rattle.std.proofs.Common.{◌≡◌, ℕ, ◌≤◌, Bool, true, false, ◌⊎◌, List, [], ◌∷◌, ◌++◌, length, is_some, is_err, Some, None, Ok, Err, Option, Result, sym, refl, ap, ◌∙◌, subst, ap₂, inl, inr, append_assoc, append-nil, arith, MatchResult}
+use Rattle.std.proofs.Common.{◌≡◌, ℕ, ◌≤◌, true, false, ◌⊎◌, List, [], ◌∷◌, ◌++◌, length, is_some, is_err, Some, None, Ok, Err, Option, Result, sym, refl, ap, ◌∙◌, subst, ap₂, inl, inr, append_assoc, append-nil, arith, MatchResult}
 use Rattle.std.proofs.lemmas.Bool.{true≢false}
 use Rattle.blocks.specs.Devices.{Device, size_of}
 use Rattle.directory.specs.Judgements.{judged}
@@ -7,7 +7,7 @@ use Rattle.directory.specs.Layouts.{Follows}
 use Rattle.directory.specs.declared.judgement.Pack.{Pack}
 use Rattle.directory.proofs.Verdicts.{judgement-law}
 use Rattle.model.specs.Models.{Model, model_of}
-use Rattle.model.specs.Represents.{Decided, Represents, Turn}
+use Rattle.model.specs.Represents.{Represents}
 use Rattle.model.specs.Requests.{Reply, Request}
 use Rattle.model.specs.Runs.{Origin, Standing, answers, device_after, first_origin, is_refused, last_device, last_model, last_origin, opens, origin_after}
 use Rattle.model.specs.Steps.{step}

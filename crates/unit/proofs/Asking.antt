@@ -1,26 +1,25 @@
 -- Find and show answer as the model's steps do. Assumes nothing.
-use Rattle.std.proofs.Common.{◌≡◌, ℕ, ◌+◌, ◌-◌, ◌*◌, ◌<◌, ◌≤◌, Bool, true, false, cond, ◌&&◌, eqb, ltb, leb, ◌⊎◌, List, ◌++◌, length, drop, is_some, is_err, Some, None, Ok, Err, Option, Result, sym, refl, ap, ◌∙◌, subst, inl, inr, arith}
-use Rattle.std.proofs.lemmas.Bool.{and_cases, and_parts, eqb-true, leb-false, leb-true, ltb-false, ltb-true, true≢false}
+use Rattle.std.proofs.Common.{◌≡◌, ℕ, ◌+◌, ◌-◌, ◌<◌, ◌≤◌, Bool, true, false, cond, ◌&&◌, eqb, ltb, leb, ◌⊎◌, List, ◌++◌, length, drop, is_some, Some, None, Ok, Err, Option, Result, sym, refl, ap, ◌∙◌, subst, inl, inr, arith}
+use Rattle.std.proofs.lemmas.Bool.{and_cases, and_parts, leb-false, leb-true, ltb-false, ltb-true}
 use Rattle.std.specs.Option.{option_or}
 use Rattle.refusal.specs.declared.Refusal.{Refusal}
 use Rattle.refusal.specs.declared.Refusal.TheVariants.{BadName, NoSuchFile, OutOfRange}
 use Rattle.blocks.specs.Devices.{Device, block_at, size_of}
-use Rattle.entry.specs.Fields.{entry_in}
-use Rattle.directory.specs.Entries.{entry_at, entry_or, entry_read, holder_of}
+use Rattle.directory.specs.Entries.{entry_at, entry_or, entry_read}
 use Rattle.directory.specs.Judgements.{judged}
-use Rattle.directory.specs.Lookups.{found_at, is_match, lookup_reply}
+use Rattle.directory.specs.Lookups.{is_match, lookup_reply}
 use Rattle.directory.specs.declared.judgement.Pack.{Pack}
 use Rattle.directory.specs.declared.lookups.Found.{Found}
 use Rattle.model.specs.Models.{Model, files_from, model_of, pack_found, pack_on}
-use Rattle.model.specs.Represents.{Represents, Turn, Turns}
-use Rattle.model.specs.Requests.{Reply, Request, find, show}
-use Rattle.model.specs.Steps.{Step, buffer_stage, files_of, find_step, first_file, fits_name, is_name, name_stage, pack_stage, show_step, shown_step, unless, work_stage}
+use Rattle.model.specs.Represents.{Turn, Turns}
+use Rattle.model.specs.Requests.{Reply, find, show}
+use Rattle.model.specs.Steps.{buffer_stage, files_of, find_step, first_file, fits_name, is_name, name_stage, pack_stage, show_step, shown_step, unless, work_stage}
 use Rattle.model.specs.declared.state.NameKind.{NameKind}
 use Rattle.model.specs.declared.state.State.{State}
 use Rattle.model.proofs.Laying.{laid_on}
 use Rattle.model.proofs.Stages.{full}
-use Rattle.model.proofs.Reading.{Known, found-file, known, numbered-in, numbered-out, read_none}
-use Rattle.unit.specs.Calls.{after, file_found, file_shown, named, number, numbered, read_as, some_file, with_pack}
+use Rattle.model.proofs.Reading.{found-file, known, numbered-in, numbered-out, read_none}
+use Rattle.unit.specs.Calls.{after, file_found, file_shown, named, numbered, read_as, some_file, with_pack}
 
 -- the reply to a call about a file
 abbrev pub shown_reply : Result Found Refusal → List ℕ → Reply

@@ -1,5 +1,5 @@
 -- Set date and take up change what the model's steps change. Assumes nothing.
-use Rattle.std.proofs.Common.{◌≡◌, ℕ, ◌<◌, Bool, true, false, cond, List, [], length, is_err, Some, None, Ok, Err, Option, Result, sym, refl, ap, ◌∙◌, subst, arith}
+use Rattle.std.proofs.Common.{◌≡◌, ℕ, ◌<◌, true, false, [], length, is_err, Some, None, Ok, Err, Option, Result, sym, refl, ap, ◌∙◌, subst, arith}
 use Rattle.std.proofs.lemmas.Bool.{cond-false, cond-true, true≢false}
 use Rattle.refusal.specs.declared.Refusal.{Refusal}
 use Rattle.refusal.specs.declared.Refusal.TheVariants.{OutOfRange}
@@ -9,9 +9,9 @@ use Rattle.entry.specs.declared.date.Date.{Date}
 use Rattle.entry.specs.declared.stamp.Stamp.{Stamp}
 use Rattle.directory.specs.Judgements.{judged}
 use Rattle.directory.specs.declared.judgement.Pack.{Pack}
-use Rattle.model.specs.Models.{Model, free_table, model_of, pack_found, pack_on}
-use Rattle.model.specs.Represents.{Decided, Represents, Turn, Turns}
-use Rattle.model.specs.Requests.{Reply, Request, set_date, take_up}
+use Rattle.model.specs.Models.{Model, free_table, model_of, pack_found}
+use Rattle.model.specs.Represents.{Decided, Turn, Turns}
+use Rattle.model.specs.Requests.{Reply, set_date, take_up}
 use Rattle.model.specs.Steps.{Step, done_step, dated_model, refused_step, set_date_step, take_up_step, taken_up, unless, work_stage}
 use Rattle.model.specs.declared.state.State.{State}
 use Rattle.unit.specs.Calls.{after, done, pack_taken, state_taken, state_unless}

@@ -1,17 +1,13 @@
 -- The blocks that initialise reads and writes. Assumes nothing.
-use Rattle.std.proofs.Common.{◌≡◌, ℕ, zero, suc, ◌+◌, ◌-◌, ◌<◌, ◌≤◌, Bool, true, false, cond, ◌&&◌, eqb, ltb, ◌⊎◌, List, length, set, replicate, Some, None, Ok, Err, Option, Result, sym, refl, ap, ◌∙◌, subst, ap₂, inl, inr, arith}
-use Rattle.std.proofs.lemmas.List.{length-set}
-use Rattle.std.proofs.lemmas.Bool.{and_from, cases_eq, lt-ltb}
+use Rattle.std.proofs.Common.{◌≡◌, ℕ, suc, ◌+◌, ◌<◌, ◌≤◌, cond, eqb, ltb, List, length, replicate, Some, None, Ok, Err, Option, Result, sym, refl, ap, ◌∙◌, arith}
+use Rattle.std.proofs.lemmas.Bool.{and_from, lt-ltb}
 use Rattle.std.specs.Option.{option_map, option_or}
 use Rattle.refusal.specs.declared.Refusal.{Refusal}
 use Rattle.blocks.specs.Devices.{Device, mark_at, mark_fault, outcome, read_fault, refusal_of, size_of, tab_fault, write_fault, written}
 use Rattle.blocks.specs.declared.faults.Fault.{Fault}
 use Rattle.blocks.specs.declared.faults.Fault.TheVariants.{OutOfRange}
-use Rattle.blocks.specs.declared.faults.Mark.{Mark}
 use Rattle.blocks.specs.declared.faults.Tab.TheVariants.{Off}
-use Rattle.blocks.specs.declared.faults.Mark.TheVariants.{Sound}
-use Rattle.model.specs.Fresh.{zeroed}
-use Rattle.model.specs.Steps.{bad_stage, first_bad}
+use Rattle.model.specs.Steps.{first_bad}
 use Rattle.model.proofs.Freshness.{sound-read, zeroed-long}
 use Rattle.unit.specs.Calls.{after, cleared}
 

@@ -1,24 +1,19 @@
 -- A granted initialise: what was tested, and what the device and the state are then. Assumes nothing.
-use Rattle.std.proofs.Common.{◌≡◌, ℕ, ◌+◌, ◌-◌, ◌<◌, ◌≤◌, Bool, true, false, cond, ◌&&◌, leb, List, [], ◌∷◌, ◌++◌, length, replicate, is_err, Some, None, Ok, Err, Option, Result, sym, refl, ap, ◌∙◌, subst, ap₂, arith}
-use Rattle.std.proofs.lemmas.Bool.{and_parts, leb-true, true≢false}
-use Rattle.std.specs.Option.{option_map, option_or}
+use Rattle.std.proofs.Common.{◌≡◌, ℕ, ◌+◌, ◌-◌, ◌≤◌, true, List, [], ◌∷◌, ◌++◌, replicate, Some, None, Ok, Option, Result, sym, ap, ◌∙◌, subst, ap₂, arith}
+use Rattle.std.proofs.lemmas.Bool.{true≢false}
+use Rattle.std.specs.Option.{option_map}
 use Rattle.refusal.specs.declared.Refusal.{Refusal}
-use Rattle.blocks.specs.Devices.{Device, refusal_of, size_of, write_fault, written}
-use Rattle.blocks.specs.declared.faults.Fault.{Fault}
-use Rattle.blocks.specs.declared.faults.Mark.{Mark}
-use Rattle.blocks.specs.declared.faults.Tab.{Tab}
-use Rattle.blocks.specs.declared.faults.Tab.TheVariants.{Off, On}
-use Rattle.names.specs.Names.{is_volume, name_field}
+use Rattle.blocks.specs.Devices.{Device, size_of, write_fault, written}
+use Rattle.names.specs.Names.{name_field}
 use Rattle.names.proofs.Fields.{field-field}
 use Rattle.entry.specs.Fields.{check_bytes, long_bytes}
 use Rattle.entry.specs.declared.stamp.Stamp.{Stamp}
-use Rattle.directory.specs.Judgements.{judged}
 use Rattle.directory.specs.declared.judgement.Pack.{Pack}
-use Rattle.model.specs.Fresh.{boot_entry, dated, directory_entry, first_block, fresh_pack, initialised, left_entry, volume_entry}
-use Rattle.model.specs.Models.{Model, PackModel, free_table, model_of, pack_on, stamp_of_date}
+use Rattle.model.specs.Fresh.{boot_entry, dated, directory_entry, first_block, fresh_pack, initialised, left_entry}
+use Rattle.model.specs.Models.{Model, PackModel, free_table, model_of, stamp_of_date}
 use Rattle.model.specs.Represents.{Decided, Represents, Turn, Turns}
-use Rattle.model.specs.Requests.{Reply, initialise}
-use Rattle.model.specs.Steps.{bad_stage, done_step, first_bad, initialise_step, name_stage, shape_stage, tab_stage, unless, up_model, work_stage}
+use Rattle.model.specs.Requests.{initialise}
+use Rattle.model.specs.Steps.{done_step, first_bad, initialise_step, unless, up_model}
 use Rattle.model.specs.declared.state.OpenFile.{OpenFile}
 use Rattle.model.specs.declared.state.State.{State}
 use Rattle.model.proofs.Stages.{Facts, facts}

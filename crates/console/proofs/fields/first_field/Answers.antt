@@ -1,4 +1,4 @@
-use Rattle.std.proofs.Common.{false, ◌∷◌, take, drop, sym, ap, ◌∙◌, ap₂}
+use Rattle.std.proofs.Common.{false, ◌∷◌, take, drop, ap, ◌∙◌, ap₂}
 use Rattle.console.specs.Fields.{later}
 use Rattle.console.proofs.Splitting.{split}
 use Rattle.console.proofs.fields.first_field.Goals as goal

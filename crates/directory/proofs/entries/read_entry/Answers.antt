@@ -1,4 +1,4 @@
-use Rattle.std.proofs.Common.{◌≡◌, sym, ap, ◌∙◌}
+use Rattle.std.proofs.Common.{sym, ap, ◌∙◌}
 use Rattle.directory.specs.Entries.{heard_as}
 use Rattle.directory.proofs.Carrying.{entry-held, held}
 use Rattle.directory.proofs.entries.read_entry.Goals as goal

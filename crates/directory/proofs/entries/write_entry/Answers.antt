@@ -1,4 +1,4 @@
-use Rattle.std.proofs.Common.{◌≡◌, length, Err, sym, ap, ◌∙◌}
+use Rattle.std.proofs.Common.{length, Err, sym, ap, ◌∙◌}
 use Rattle.std.proofs.lemmas.Result.{err_from_is_err_and}
 use Rattle.blocks.specs.Devices.{outcome, write_fault}
 use Rattle.directory.specs.Entries.{heard_as, put_unless}

@@ -1,6 +1,6 @@
-use Rattle.std.proofs.Common.{◌≡◌, ℕ, suc, ◌+◌, ◌-◌, ◌*◌, ◌≤◌, length, None, Err, sym, refl, ap, ◌∙◌, subst, arith}
+use Rattle.std.proofs.Common.{◌≡◌, ◌+◌, ◌-◌, ◌*◌, None, Err, sym, refl, ap, ◌∙◌, subst, arith}
 use Rattle.std.proofs.lemmas.Result.{err_from_is_err_and}
-use Rattle.blocks.specs.Devices.{block_at, outcome, read_fault}
+use Rattle.blocks.specs.Devices.{outcome, read_fault}
 use Rattle.entry.specs.Fields.{entry_in}
 use Rattle.directory.specs.Entries.{heard_as}
 use Rattle.directory.specs.Judgements.{first_unread, layout_fault, verdict}

@@ -1,4 +1,4 @@
-use Rattle.std.proofs.Common.{◌≡◌, ltb, length, ap, ◌∙◌}
+use Rattle.std.proofs.Common.{ltb, length, ap, ◌∙◌}
 use Rattle.directory.proofs.Testing.{etx-cuts}
 use Rattle.directory.proofs.layout.has_etx.Goals as goal
 

@@ -1,8 +1,6 @@
-use Rattle.std.proofs.Common.{◌≡◌, ℕ, length, vec_items, sym, refl, ap, ◌∙◌, subst}
+use Rattle.std.proofs.Common.{length, vec_items, sym, refl, ap, ◌∙◌, subst}
 use Rattle.std.proofs.lemmas.List.{with_items_is}
 use Rattle.model.specs.Requests.{find, show}
-use Rattle.model.specs.Runs.{device_after, opens}
-use Rattle.model.specs.Models.{model_of}
 use Rattle.requests.specs.Values.{meant, told}
 use Rattle.unit.specs.Calls.{number}
 use Rattle.runs.specs.Performed.{Performed}

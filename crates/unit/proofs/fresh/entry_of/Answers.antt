@@ -1,4 +1,4 @@
-use Rattle.std.proofs.Common.{◌≡◌, refl}
+use Rattle.std.proofs.Common.{refl}
 use Rattle.unit.proofs.Building.{built}
 use Rattle.unit.proofs.fresh.entry_of.Goals as goal
 

@@ -1,4 +1,4 @@
-use Rattle.std.proofs.Common.{◌≡◌, refl, ◌∙◌}
+use Rattle.std.proofs.Common.{refl, ◌∙◌}
 use Rattle.unit.proofs.Building.{built-volume}
 use Rattle.unit.proofs.fresh.volume_entry.Goals as goal
 

@@ -1,4 +1,4 @@
-use Rattle.std.proofs.Common.{◌≡◌, suc, ◌+◌, ◌-◌, length, Err, sym, refl, ap, ◌∙◌, arith}
+use Rattle.std.proofs.Common.{◌+◌, ◌-◌, length, Err, ap, ◌∙◌, arith}
 use Rattle.unit.proofs.Clearing.{bad-ends, bad-none, bad-on}
 use Rattle.unit.proofs.initialising.check_blocks.Goals as goal
 

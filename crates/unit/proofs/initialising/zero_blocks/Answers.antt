@@ -1,4 +1,4 @@
-use Rattle.std.proofs.Common.{◌≡◌, ℕ, suc, ◌+◌, ◌-◌, length, sym, ap, ◌∙◌, arith}
+use Rattle.std.proofs.Common.{ℕ, ◌+◌, ◌-◌, length, ap, ◌∙◌, arith}
 use Rattle.model.specs.Steps.{first_bad}
 use Rattle.std.proofs.lemmas.List.{length-replicate}
 use Rattle.unit.proofs.Clearing.{can_write, clear-on, same-marks}

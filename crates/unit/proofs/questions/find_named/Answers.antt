@@ -1,4 +1,4 @@
-use Rattle.std.proofs.Common.{◌≡◌, cond, length, Err, sym, ap, ◌∙◌}
+use Rattle.std.proofs.Common.{cond, length, Err, sym, ap, ◌∙◌}
 use Rattle.refusal.specs.declared.Refusal.TheVariants.{BadName}
 use Rattle.directory.specs.Lookups.{lookup_reply}
 use Rattle.directory.proofs.Naming.{stem-key, whole-key}

@@ -1,4 +1,4 @@
-use Rattle.std.proofs.Common.{◌≡◌, length, Some, Ok, Err, sym, refl, ap, ◌∙◌, ap₂}
+use Rattle.std.proofs.Common.{length, Some, Ok, Err, ap, ◌∙◌, ap₂}
 use Rattle.std.proofs.lemmas.Result.{err_from_is_err_and}
 use Rattle.unit.specs.Calls.{number}
 use Rattle.unit.proofs.Asking.{show-turn, shown_reply}

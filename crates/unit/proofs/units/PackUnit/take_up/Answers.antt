@@ -1,7 +1,6 @@
-use Rattle.std.proofs.Common.{◌≡◌, List, length, Some, None, Ok, Err, Option, sym, refl, ap, ◌∙◌}
+use Rattle.std.proofs.Common.{List, length, Some, None, Ok, Err, Option, refl, ap, ◌∙◌}
 use Rattle.std.proofs.lemmas.Result.{err_from_is_err_and}
 use Rattle.model.specs.declared.state.OpenFile.{OpenFile}
-use Rattle.model.specs.declared.state.State.{State}
 use Rattle.unit.specs.Calls.{done}
 use Rattle.unit.proofs.Changing.{not_taken, taken-up}
 use Rattle.unit.proofs.units.PackUnit.take_up.Goals as goal
