@@ -46,7 +46,8 @@ def files():
 
 
 def pages():
-    for name in ["README.md"] + sorted(os.path.join("docs", n) for n in os.listdir("docs") if n.endswith(".md")):
+    """The pages, but for the one that tells the old spellings."""
+    for name in ["README.md"] + sorted(os.path.join("docs", n) for n in os.listdir("docs") if n.endswith(".md") and n != "PORT.md"):
         yield name
 
 
