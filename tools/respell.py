@@ -61,7 +61,7 @@ def main():
         words, stood = {}, {}
         for path in files():
             with open(path, encoding="utf-8") as f:
-                found = set(WORD.findall(f.read()))
+                found = set(WORD.findall(" ".join(STRING.split(f.read())[::2])))
             for word in found:
                 new = respelled(word)
                 if new != word:

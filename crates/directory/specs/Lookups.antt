@@ -1,12 +1,12 @@
 -- The one lookup of the directory. Assumes nothing.
---   first_that                  the first of some entries that passes a test
---   is_blocks_left, is_deleted what the attributes of an entry say of it, from entry 3 on
---   is_match                    an entry of a live file that a key says yes to
---   ends_at, said_at            the lookup ends at an entry; what it then answers
---   found_at                    what is found: an entry's number and bytes
---   lookup_reply                what the lookup answers
---   IsFile, Match, FirstMatch   the files, those that are live and that a key says yes to, the first of these
---   LookupLaw                   what the answer says of the files
+--   first_that                   the first of some entries that passes a test
+--   is_blocks_left, is_deleted   what the attributes of an entry say of it, from entry 3 on
+--   is_match                     an entry of a live file that a key says yes to
+--   ends_at, said_at             the lookup ends at an entry; what it then answers
+--   found_at                     what is found: an entry's number and bytes
+--   lookup_reply                 what the lookup answers
+--   IsFile, Match, FirstMatch    the files, those that are live and that a key says yes to, the first of these
+--   LookupLaw                    what the answer says of the files
 use Rattle.std.specs.Prelude.{◌≡◌, ℕ, zero, suc, ◌+◌, ◌-◌, ◌*◌, ◌<◌, ◌≤◌, Bool, true, false, cond, not, ◌&&◌, ◌||◌, List, is_some, Some, None, Ok, Err, Option, Result}
 use Rattle.refusal.specs.declared.Refusal.{Refusal}
 use Rattle.blocks.specs.Devices.{Device, read_fault, refusal_of}
