@@ -1,10 +1,10 @@
 -- The abstract model of a pack unit: what a unit and its device stand for. Assumes nothing.
---   File        a file: the 26 bytes of its entry and, if it is live, the bytes that it holds
---   PackModel   a pack that follows the layout: its entries and its files
---   Model       the date, the size, marks and tab of the device, whether the pack is up, the pack, and the open files
---   pack_on     the pack on a device, or why it does not follow the layout
---   empty_state the state of a unit that was just made
---   model_of    the model that a state and a device stand for
+--   File          a file: the 26 bytes of its entry and, if it is live, the bytes that it holds
+--   PackModel     a pack that follows the layout: its entries and its files
+--   Model         the date, the size, marks and tab of the device, whether the pack is up, the pack, and the open files
+--   pack_on       the pack on a device, or why it does not follow the layout
+--   empty_state   the state of a unit that was just made
+--   model_of      the model that a state and a device stand for
 use Rattle.std.specs.Prelude.{ℕ, zero, suc, ◌+◌, ◌-◌, Bool, cond, List, [], ◌∷◌, ◌++◌, take, replicate, is_some, None, Ok, Err, Option, Result}
 use Rattle.std.specs.Option.{option_map, unwrap_or}
 use Rattle.refusal.specs.declared.Refusal.{Refusal}
