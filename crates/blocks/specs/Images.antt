@@ -2,9 +2,8 @@
 --   tabulated   the list of a function's values at 0, 1, ..
 --   is_image    bytes are whole blocks, 1 to 65,535 of them
 --   image_of    the device that they are, all blocks sound, with the tab at depth 0 if it is on
---   stored      bytes with others put over them from a place on
 --   encoded     the bytes that a device's blocks are, one after the other
-use Rattle.std.specs.Prelude.{ℕ, ◌+◌, ◌*◌, ◌/◌, ◌%◌, Bool, cond, ◌&&◌, List, ◌++◌, map, length, take, drop, ◌==◌, nat_le}
+use Rattle.std.specs.Prelude.{ℕ, ◌*◌, ◌/◌, ◌%◌, Bool, cond, ◌&&◌, List, map, length, take, drop, ◌==◌, nat_le}
 use Rattle.std.specs.List.{range_with_len, flat_map}
 use Rattle.blocks.specs.Devices.{Device}
 use Rattle.blocks.specs.declared.faults.Mark.{Mark}
@@ -30,10 +29,6 @@ image_block bytes b = take 1024 (drop (1024 * b) bytes)
 
 abbrev pub image_of : List ℕ → Bool → Device
 image_of bytes protected = numbered (length bytes / 1024) (image_block bytes) (λ _. Sound) (tab_of protected)
-
--- Every byte before the place and behind what is put there stays.
-abbrev pub stored : List ℕ → ℕ → List ℕ → List ℕ
-stored bytes at new = take at bytes ++ (new ++ drop (at + length new) bytes)
 
 abbrev pub encoded : Device → List ℕ
 encoded d = flat_map (λ block. block) d.blocks

@@ -63,17 +63,6 @@ impl Fault {
         }
     }
 
-    // The refusal that the fault is to a caller of the unit.
-    pub fn refusal(self) -> Refusal
-        ensures { result ≡ refusal_of self }
-    {
-        match self {
-            Fault::OutOfRange { .. } => Refusal::OutOfRange,
-            Fault::WriteProtected { depth } => Refusal::WriteProtected { depth },
-            Fault::BadBlock { depth, place } => Refusal::BadBlock { depth, place },
-        }
-    }
-
     // The fault as a layer passes it up.
     pub fn deeper(self) -> Fault
         ensures { result ≡ deeper_fault self }
@@ -87,6 +76,19 @@ impl Fault {
                 depth: next_depth(depth),
                 place,
             },
+        }
+    }
+}
+
+// The refusal that a fault is to a caller of the unit.
+impl From<Fault> for Refusal {
+    ghost from_gives = { λ fault refusal. refusal ≡ refusal_of fault };
+
+    fn from(fault: Fault) -> Refusal {
+        match fault {
+            Fault::OutOfRange { .. } => Refusal::OutOfRange,
+            Fault::WriteProtected { depth } => Refusal::WriteProtected { depth },
+            Fault::BadBlock { depth, place } => Refusal::BadBlock { depth, place },
         }
     }
 }

@@ -1,6 +1,7 @@
 // The image: bytes handed in, block b at byte 1,024 × b, all blocks sound.
 ghost use Rattle.std.specs.Prelude.{◌≡◌, ℕ, ◌+◌, ◌*◌, ◌<◌, ◌≤◌, true, false, length, take, drop, MatchResult, slice_index};
-ghost use Rattle.blocks.specs.Images.{encoded, image_of, is_image as is_image_of, stored};
+ghost use Rattle.blocks.specs.Images.{encoded, image_of, is_image as is_image_of};
+ghost use Rattle.parts.specs.Parts.{stored};
 ghost use Rattle.refusal.specs.declared.Refusal.TheVariants.{OutOfRange};
 ghost use Rattle.blocks.specs.Imaging.{image-sized, image-wide, image-small, image-marked, image-shallow};
 

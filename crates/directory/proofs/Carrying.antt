@@ -6,9 +6,9 @@ use Rattle.refusal.specs.declared.Refusal.{Refusal}
 use Rattle.blocks.specs.Devices.{Device, block_at, in_range, mark_at, mark_fault, outcome, read_fault, read_out, size_of, write_fault, written}
 use Rattle.blocks.specs.declared.faults.Fault.{Fault}
 use Rattle.blocks.specs.declared.faults.Fault.TheVariants.{OutOfRange}
-use Rattle.entry.specs.Fields.{entry_in}
+use Rattle.entry.specs.Fields.{entry_in, put_in}
 use Rattle.entry.specs.declared.fields.Entry.{Entry}
-use Rattle.directory.specs.Entries.{entry_at, entry_fault, entry_or, entry_read, entry_written, heard_as, holder_of, put_in, put_unless}
+use Rattle.directory.specs.Entries.{entry_at, entry_fault, entry_or, entry_read, entry_written, heard_as, holder_of, put_unless}
 
 granted : (o : Option Fault) (done : Unit {0}) → Ok done ≡ heard_as (outcome o) → o ≡ None
 granted None done h = refl

@@ -3,9 +3,9 @@ use Rattle.std.proofs.Common.{◌≡◌, ℕ, ◌+◌, ◌*◌, ◌%◌, ◌<◌
 use Rattle.std.proofs.lemmas.List.{get_or-set_other, get_or-set_same, length-set}
 use Rattle.std.proofs.lemmas.Bool.{cases_eq, cases_order}
 use Rattle.blocks.specs.Devices.{Device, block_at, size_of}
-use Rattle.blocks.specs.Imaging.{part-aside, part-itself, stored-before, stored-behind}
-use Rattle.entry.specs.Fields.{entry_in}
-use Rattle.directory.specs.Entries.{EntryLaws, entry_at, holder_of, put_entry, put_in}
+use Rattle.parts.proofs.Storing.{part-aside, part-itself, stored-before, stored-behind}
+use Rattle.entry.specs.Fields.{entry_in, put_in}
+use Rattle.directory.specs.Entries.{EntryLaws, entry_at, holder_of, put_entry}
 
 -- the block that holds an entry, after the entry was put there
 held : (d : Device) (e : ℕ) (bytes : List ℕ) → holder_of e < size_of d → block_at (put_entry d e bytes) (holder_of e) ≡ put_in (block_at d (holder_of e)) e bytes

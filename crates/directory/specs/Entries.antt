@@ -12,7 +12,7 @@ use Rattle.std.specs.Option.{option_or}
 use Rattle.refusal.specs.declared.Refusal.{Refusal}
 use Rattle.blocks.specs.Devices.{Device, block_at, read_fault, refusal_of, size_of, write_fault}
 use Rattle.blocks.specs.declared.faults.Fault.{Fault}
-use Rattle.entry.specs.Fields.{entry_in, stored}
+use Rattle.entry.specs.Fields.{entry_in, put_in}
 use Rattle.entry.specs.declared.fields.Entry.{Entry}
 
 -- Entry e is the (e mod 39)th of block 1 + e ÷ 39.
@@ -21,9 +21,6 @@ holder_of e = 1 + e / 39
 
 abbrev pub entry_at : Device → ℕ → List ℕ
 entry_at d e = entry_in (block_at d (holder_of e)) e
-
-abbrev pub put_in : List ℕ → ℕ → List ℕ → List ℕ
-put_in block e bytes = stored block (26 * (e % 39)) bytes
 
 abbrev pub put_entry : Device → ℕ → List ℕ → Device
 put_entry d e bytes = record {

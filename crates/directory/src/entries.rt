@@ -1,8 +1,8 @@
 // Reading and writing one entry through the caller's work block.
 ghost use Rattle.std.specs.Prelude.{◌≡◌, ◌+◌, ◌/◌, length};
-ghost use Rattle.directory.specs.Entries.{EntryLaws, WorkBlock, entry_fault, entry_read, entry_written, heard_as, put_in};
+ghost use Rattle.directory.specs.Entries.{EntryLaws, WorkBlock, entry_fault, entry_read, entry_written, heard_as};
 ghost use Rattle.blocks.specs.Devices.{outcome};
-ghost use Rattle.entry.specs.Fields.{entry_in};
+ghost use Rattle.entry.specs.Fields.{entry_in, put_in};
 
 use blocks::{BlockDevice, Fault};
 use entry::{BLOCK, ENTRIES, ENTRY, Entry};
@@ -42,7 +42,7 @@ pub(crate) fn heard(reply: Result<(), Fault>) -> Result<(), Refusal>
 {
     match reply {
         Ok(()) => Ok(()),
-        Err(fault) => Err(fault.refusal()),
+        Err(fault) => Err(Refusal::from(fault)),
     }
 }
 

@@ -4,17 +4,12 @@ use lib.Bits.{bit_and}
 use borrow.Rule.Slice.PartMut.{put_mid}
 use Rattle.std.proofs.lemmas.Nat.{and_mask}
 use Rattle.std.proofs.lemmas.List.{drop-drop, get_or-take, get_or-drop, take-take}
-use Rattle.entry.specs.Fields.{attributes_of, bit, name_of, part, stored}
+use Rattle.entry.specs.Fields.{attributes_of, bit, name_of}
+use Rattle.parts.specs.Parts.{part, stored}
 
 -- the byte at place i of a part
 pub get_or-part : (xs : List ℕ) (at count i : ℕ) → i < count → get_or (part at count xs) i 0 ≡ get_or xs (at + i) 0
 get_or-part xs at count i h = get_or-take count (drop at xs) i 0 h ∙ get_or-drop at xs i 0
-
--- what a copy to a part leaves
-pub stored-mid : (xs ys new : List ℕ) (at k : ℕ) → ys ≡ new → k ≡ length new → put_mid at k xs ys ≡ stored xs at new
-stored-mid xs ys new at k e l =
-    ap₂ (λ y j. take at xs ++ (y ++ drop j (drop at xs))) e l
-    ∙ ap (λ d. take at xs ++ (new ++ d)) (drop-drop (length new) at xs)
 
 -- the bit that a shift and a mask pick
 pub bit_is : (byte k n : ℕ) → k ≡ n → eqb (bit_and (byte / 2 ^ k) 1) 1 ≡ bit n byte

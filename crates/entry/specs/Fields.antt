@@ -1,21 +1,18 @@
 -- The fields of an entry's 26 bytes. Assumes nothing.
---   part, stored   what stands at a place of some bytes; bytes with others put over that place
 --   entry_in       an entry of a directory block
+--   put_in         the block with other bytes in the place of an entry
 --   word, long     the number in two or in four bytes, the low byte first; word_bytes and long_bytes write it
 --   bit            a bit of a byte, 0 the lowest
 --   name_of .. date_of, check_of, size_of, directory_of   the fields of an entry, by position
 use Rattle.std.specs.Prelude.{ℕ, ◌+◌, ◌*◌, ◌/◌, ◌%◌, ◌^◌, Bool, List, [], ◌∷◌, ◌++◌, length, take, drop, ◌==◌, slice_index}
-
-abbrev pub part : ℕ → ℕ → List ℕ → List ℕ
-part at count bytes = take count (drop at bytes)
+use Rattle.parts.specs.Parts.{part, stored}
 
 -- The 26 bytes of the entry of a number in the directory block that holds it: 39 entries stand in a block.
 abbrev pub entry_in : List ℕ → ℕ → List ℕ
 entry_in block number = part (26 * (number % 39)) 26 block
 
--- Every byte before the place and behind what is put there stays.
-abbrev pub stored : List ℕ → ℕ → List ℕ → List ℕ
-stored bytes at new = take at bytes ++ (new ++ drop (at + length new) bytes)
+abbrev pub put_in : List ℕ → ℕ → List ℕ → List ℕ
+put_in block number bytes = stored block (26 * (number % 39)) bytes
 
 abbrev pub word : List ℕ → ℕ → ℕ
 word bytes at = slice_index bytes at + slice_index bytes (at + 1) * 256

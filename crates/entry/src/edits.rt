@@ -1,6 +1,7 @@
 // Writing the fields of an entry: each changes its bytes and no other.
 ghost use Rattle.std.specs.Prelude.{◌≡◌, [], ◌∷◌};
-ghost use Rattle.entry.specs.Fields.{check_bytes, long_bytes, stored, word_bytes};
+ghost use Rattle.entry.specs.Fields.{check_bytes, long_bytes, word_bytes};
+ghost use Rattle.parts.specs.Parts.{stored};
 ghost use Rattle.entry.specs.Stamps.{date_bytes};
 
 use crate::attributes::Attributes;

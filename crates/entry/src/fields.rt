@@ -1,6 +1,6 @@
 // The fields of an entry, read from their places in its 26 bytes.
-ghost use Rattle.std.specs.Prelude.{◌≡◌};
-ghost use Rattle.entry.specs.Fields.{attributes_of, check_bytes, check_of, date_of, directory_of, entry_in, first_of, last_of, name_of, room_of, size_of, used_of};
+ghost use Rattle.std.specs.Prelude.{◌≡◌, ◌*◌, ◌%◌};
+ghost use Rattle.entry.specs.Fields.{attributes_of, check_bytes, check_of, date_of, directory_of, entry_in, first_of, last_of, name_of, put_in, room_of, size_of, used_of};
 ghost use Rattle.entry.specs.Lengths.{length_of};
 ghost use Rattle.entry.specs.Stamps.{stamp_of};
 ghost use Rattle.std.specs.Str.{bytes_eq};
@@ -25,15 +25,30 @@ pub struct Entry {
     pub bytes: [u8; ENTRY],
 }
 
+// Where the entry of that number begins in the directory block that holds it.
+pub(crate) fn place_of(number: u32) -> usize
+    ensures { result ≡ 26 * (number % 39) }
+{
+    ENTRY * (number % ENTRIES) as usize
+}
+
 impl Entry {
     // The entry of that number, as it stands in the directory block that holds it.
     pub fn from_block(block: &[u8; BLOCK], number: u32) -> Entry
         ensures { result.bytes ≡ entry_in block.now number }
     {
-        let at = ENTRY * (number % ENTRIES) as usize;
+        let at = place_of(number);
         let mut bytes = [0; ENTRY];
         bytes.copy_from_slice(&block[at..at + ENTRY]);
         Entry { bytes }
+    }
+
+    // Puts the entry in the place of the entry of that number, in the directory block that holds it.
+    pub fn put_in(&self, block: &mut [u8; BLOCK], number: u32)
+        ensures { block.new ≡ put_in block.old number self.now.bytes }
+    {
+        let at = place_of(number);
+        block[at..at + ENTRY].copy_from_slice(&self.bytes);
     }
 
     // The name field: the name, its ETX, and what is left of an older name behind it.

@@ -6,7 +6,7 @@ ghost use Rattle.names.specs.Names.{characters as characters_of};
 ghost use Rattle.std.specs.Option.{option_map};
 
 use crate::attributes::{Attribute, Attributes};
-use crate::fields::{ENTRIES, ENTRY};
+use crate::fields::place_of;
 use crate::length::BLOCK;
 use names::{FIELD, characters};
 
@@ -29,7 +29,7 @@ fn head_of(block: &[u8; BLOCK], number: u32) -> Head<'_>
     ensures name { result.name.now ≡ characters_of (name_of (entry_in block.now number)) }
     ensures attributes { result.attributes.byte ≡ attributes_of (entry_in block.now number) }
 {
-    let at = ENTRY * (number % ENTRIES) as usize;
+    let at = place_of(number);
     Head {
         name: characters(&block[at..at + FIELD]),
         attributes: Attributes {

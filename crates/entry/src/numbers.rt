@@ -1,6 +1,7 @@
 // Numbers of two and four bytes in an entry, the low byte first.
 ghost use Rattle.std.specs.Prelude.{◌≡◌, ◌+◌, ◌≤◌, length};
-ghost use Rattle.entry.specs.Fields.{long as long_at, stored, word as word_at};
+ghost use Rattle.entry.specs.Fields.{long as long_at, word as word_at};
+ghost use Rattle.parts.specs.Parts.{stored};
 
 use crate::fields::Entry;
 

@@ -5,7 +5,8 @@
 use Rattle.std.specs.Prelude.{ℕ, zero, suc, ◌+◌, ◌-◌, ◌*◌, ◌/◌, ◌<◌, ◌≤◌, Bool, cond, not, ◌&&◌, List, length, is_some, Some, None, Ok, Err, Option, Result}
 use Rattle.refusal.specs.declared.Refusal.{Refusal}
 use Rattle.refusal.specs.declared.Refusal.TheVariants.{BrokenLayout}
-use Rattle.entry.specs.Fields.{attributes_of, bit, entry_in, last_of, part, used_of}
+use Rattle.entry.specs.Fields.{attributes_of, bit, entry_in, last_of, used_of}
+use Rattle.parts.specs.Parts.{part}
 use Rattle.entry.specs.Lengths.{length_of}
 use Rattle.listing.specs.declared.walk.Found.{Found}
 

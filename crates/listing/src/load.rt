@@ -22,7 +22,7 @@ fn append_block<D: BlockDevice>(device: &D, block: u32, bytes: &mut Vec<u8>) -> 
 {
     let mut buffer = [0; BLOCK];
     if let Err(fault) = device.read(block, &mut buffer) {
-        return Err(Failure::Refused(fault.refusal()));
+        return Err(Failure::Refused(Refusal::from(fault)));
     }
     bytes.extend_from_slice(&buffer)?;
     Ok(())

@@ -6,10 +6,12 @@ use Rattle.std.specs.List.{range_with_len, flat_map}
 use Rattle.std.proofs.lemmas.List.{drop_all, drop_at, drop-drop, get_or_append_left, get_or-append_right, get_or-drop, get_or_past, get_or-take, length-append, length-drop, length-take, take_all, take-append-drop, take_at, take_more}
 use Rattle.std.proofs.lemmas.Bool.{and_parts, cases_lt, cases_order, eqb-true, ltb-true}
 use Rattle.blocks.specs.Devices.{ShallowMark, ShallowTab, block_at, in_range, mark_at, mark_fault, read_fault, size_of, tab_fault, write_fault, written}
-use Rattle.blocks.specs.Images.{stored, tab_of, tabulated}
+use Rattle.blocks.specs.Images.{tab_of, tabulated}
+use Rattle.parts.specs.Parts.{stored}
 use Rattle.blocks.specs.declared.faults.Fault.TheVariants.{OutOfRange}
 use Rattle.blocks.specs.declared.faults.Mark.TheVariants.{Sound, Bad}
-use Rattle.blocks.specs.Imaging.{length-stored, part-aside, part-itself, stored-before, stored-behind, stored-small, tab-shallow}
+use Rattle.blocks.specs.Imaging.{tab-shallow}
+use Rattle.parts.proofs.Storing.{length-stored, part-aside, part-itself, stored-before, stored-behind, stored-small}
 use Rattle.blocks.specs.Tables.{get_or-tabulated, length-tabulated, tabulated-past, tabulated-same, tabulated-set}
 use Rattle.sectors.specs.Disks.{block_count, disk_block, disk_mark, disk_of, encoded_disk, is_disk, is_good, record_count, sector_bytes, sector_in, sector_of, start_of, statuses, step_back}
 use Rattle.sectors.specs.Interleave.{record_of, sector_count, step_size, track_count}

@@ -1,7 +1,7 @@
 // The sector disk: 320 records of 512 bytes and a status byte, as 160 blocks of two sectors each.
 ghost use Rattle.std.specs.Prelude.{◌≡◌, ℕ, ◌+◌, ◌*◌, ◌<◌, ◌≤◌, true, false, ◌&&◌, length, take, drop, MatchResult, ◌==◌, nat_lt, slice_index};
 ghost use Rattle.blocks.specs.Devices.{outcome, write_fault, written};
-ghost use Rattle.blocks.specs.Images.{stored};
+ghost use Rattle.parts.specs.Parts.{stored};
 ghost use Rattle.refusal.specs.declared.Refusal.TheVariants.{OutOfRange};
 ghost use Rattle.sectors.specs.Disks.{block_count, disk_of, encoded_disk, is_disk as is_disk_of, is_good, record_count, sector_bytes, start_of, statuses};
 ghost use Rattle.sectors.specs.Sectoring.{disk-sized, disk-wide, disk-small, disk-marked, disk-shallow};

@@ -3,7 +3,8 @@ use Rattle.std.proofs.Common.{◌≡◌, ℕ, suc, ◌+◌, ◌-◌, true, List,
 use Rattle.std.proofs.lemmas.List.{drop-replicate}
 use Rattle.std.specs.Option.{option_map}
 use Rattle.names.specs.Names.{is_volume, name_field}
-use Rattle.entry.specs.Fields.{check_bytes, long_bytes, stored, word_bytes}
+use Rattle.entry.specs.Fields.{check_bytes, long_bytes, word_bytes}
+use Rattle.parts.specs.Parts.{stored}
 use Rattle.entry.specs.Stamps.{date_bytes}
 use Rattle.entry.specs.declared.date.Date.{Date}
 use Rattle.model.specs.Fresh.{dated, entry_bytes, volume_entry}

@@ -1,6 +1,7 @@
 // The entries of a fresh pack, and the block that holds them.
 ghost use Rattle.std.specs.Prelude.{◌≡◌, ◌*◌, ◌<◌, ◌≤◌, true, ◌∷◌, ◌++◌, length, codes};
-ghost use Rattle.entry.specs.Fields.{long_bytes, stored, word_bytes};
+ghost use Rattle.entry.specs.Fields.{long_bytes, word_bytes};
+ghost use Rattle.parts.specs.Parts.{stored};
 ghost use Rattle.entry.specs.Stamps.{date_bytes};
 ghost use Rattle.model.specs.Fresh.{boot_entry, directory_entry, entry_bytes, first_block, left_entry, volume_entry};
 ghost use Rattle.model.specs.Models.{stamp_of_date};

@@ -57,7 +57,7 @@ fn check_blocks<D: BlockDevice>(device: &D, directory: u32, work: &mut [u8]) -> 
 {
     for block in 1..directory + 1 {
         if let Err(fault) = device.read(block, work) {
-            return Err(fault.refusal());
+            return Err(Refusal::from(fault));
         }
     }
     Ok(())

@@ -1,5 +1,5 @@
 use Rattle.std.proofs.Common.{◌≡◌, ◌+◌, ◌-◌, length, arith}
-use Rattle.blocks.specs.Imaging.{stored-mid}
+use Rattle.parts.proofs.Storing.{stored-mid}
 use Rattle.blocks.proofs.images.copy_in.Goals as goal
 
 pub returns : goal.returns

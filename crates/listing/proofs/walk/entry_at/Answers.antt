@@ -1,5 +1,5 @@
 use Rattle.std.proofs.Common.{◌≡◌, ◌+◌, ◌-◌, ◌*◌, ◌/◌, ◌%◌, drop, ap, ◌∙◌, arith}
-use Rattle.entry.specs.Fields.{part}
+use Rattle.parts.specs.Parts.{part}
 use Rattle.listing.proofs.Walking.{whole-block}
 use Rattle.listing.proofs.walk.entry_at.Goals as goal
 

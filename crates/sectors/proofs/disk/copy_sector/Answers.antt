@@ -1,6 +1,6 @@
 use Rattle.std.proofs.Common.{◌≡◌, ◌+◌, ◌-◌, length, take, drop, ap, ◌∙◌, arith}
 use Rattle.std.proofs.lemmas.List.{length-drop, length-take}
-use Rattle.blocks.specs.Imaging.{stored-mid}
+use Rattle.parts.proofs.Storing.{stored-mid}
 use Rattle.sectors.proofs.disk.copy_sector.Goals as goal
 
 pub returns : goal.returns

@@ -1,6 +1,6 @@
 use Rattle.std.proofs.Common.{◌+◌, ◌-◌, replicate, codes, ap, ◌∙◌, ap₂, arith}
 use Rattle.std.specs.Option.{option_map}
-use Rattle.entry.specs.Fields.{stored}
+use Rattle.parts.specs.Parts.{stored}
 use Rattle.model.specs.Fresh.{boot_entry, directory_entry, entry_bytes, left_entry, volume_entry}
 use Rattle.model.specs.Models.{stamp_of_date}
 use Rattle.model.proofs.Fields.{boot-long, directory-long, left-long, volume-long}

@@ -1,6 +1,6 @@
 use Rattle.std.proofs.Common.{◌≡◌, ◌+◌, ◌-◌, ◌*◌, length, drop, sym, ap, ◌∙◌, arith}
 use Rattle.std.proofs.lemmas.List.{length-drop, length-take-le}
-use Rattle.blocks.specs.Imaging.{length-stored, stored-mid}
+use Rattle.parts.proofs.Storing.{length-stored, stored-mid}
 use Rattle.unit.proofs.fresh.put_first.Goals as goal
 
 pub returns : goal.returns

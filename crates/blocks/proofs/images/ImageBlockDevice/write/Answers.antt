@@ -1,8 +1,10 @@
 use Rattle.std.proofs.Common.{◌*◌, ◌<◌, ◌&&◌, eqb, ltb, length, get_or, vec_items, sym, refl, ap, ◌∙◌, subst, ap₂, arith}
 use Rattle.std.proofs.lemmas.List.{with_items_is}
 use Rattle.blocks.specs.Devices.{outcome}
-use Rattle.blocks.specs.Images.{image_of, is_image, stored}
-use Rattle.blocks.specs.Imaging.{image-after, image-fits, image-whole, image-written-none, length-stored, stored-small}
+use Rattle.blocks.specs.Images.{image_of, is_image}
+use Rattle.parts.specs.Parts.{stored}
+use Rattle.blocks.specs.Imaging.{image-after, image-fits, image-whole, image-written-none}
+use Rattle.parts.proofs.Storing.{length-stored, stored-small}
 use Rattle.blocks.proofs.images.ImageBlockDevice.write.Goals as goal
 
 pub copy_in-requires : goal.copy_in-requires

@@ -1,5 +1,5 @@
 use Rattle.std.proofs.Common.{◌≡◌, ◌+◌, ◌-◌, length, arith}
-use Rattle.entry.proofs.Parts.{stored-mid}
+use Rattle.parts.proofs.Storing.{stored-mid}
 use Rattle.entry.proofs.fields.Entry.store.Goals as goal
 
 pub returns : goal.returns

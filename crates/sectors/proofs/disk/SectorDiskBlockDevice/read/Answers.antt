@@ -1,6 +1,6 @@
 use Rattle.std.proofs.Common.{◌+◌, ◌*◌, true, false, length, vec_items, sym, refl, ap, ◌∙◌}
 use Rattle.blocks.specs.Devices.{block_at, outcome, read_out}
-use Rattle.blocks.specs.Images.{stored}
+use Rattle.parts.specs.Parts.{stored}
 use Rattle.sectors.specs.Disks.{disk_of, is_good, sector_bytes}
 use Rattle.sectors.specs.Sectoring.{disk-filled, range-is, read-fault, read-outside}
 use Rattle.sectors.proofs.disk.SectorDiskBlockDevice.read.Goals as goal

@@ -1,7 +1,8 @@
 use Rattle.std.proofs.Common.{◌+◌, ◌*◌, ◌<◌, true, false, cond, length, get_or, take, drop, vec_items, sym, refl, ap, ◌∙◌, subst, arith}
 use Rattle.std.proofs.lemmas.List.{with_items_is}
 use Rattle.blocks.specs.Devices.{mark_fault, outcome, tab_fault, written}
-use Rattle.blocks.specs.Images.{stored, tab_of}
+use Rattle.blocks.specs.Images.{tab_of}
+use Rattle.parts.specs.Parts.{stored}
 use Rattle.blocks.specs.declared.faults.Mark.TheVariants.{Sound, Bad}
 use Rattle.sectors.specs.Disks.{disk_of, is_disk, is_good, start_of, statuses}
 use Rattle.sectors.specs.Sectoring.{block-and-length, disk-after, range-is, write-fault, write-outside, written-long, written_small, written-statuses, written-whole}
