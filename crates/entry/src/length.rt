@@ -17,7 +17,7 @@ pub fn split(length: u32) -> Option<(u16, u16)>
     if length > LONGEST {
         return None;
     }
-    let used = (length + 1023) / 1024;
+    let used = length.div_ceil(1024);
     let last = length - 1024 * used.saturating_sub(1);
     Some((used as u16, last as u16))
 }
