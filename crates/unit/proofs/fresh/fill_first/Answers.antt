@@ -15,7 +15,7 @@ returns c =
     let blocks = c.args.blocks in
     let zeros = c.fill.ensures.after (λ y h. h) ∙ ap (λ n. replicate n 0) c.requires.full in
     four (volume_entry name directory blocks date) (boot_entry date) (directory_entry directory date) (left_entry directory blocks date)
-    (volume-long name directory blocks date c.args.name.volume c.requires.few (omega (arith, c.ranges.blocks.fits))) (boot-long date) (directory-long directory date) (left-long directory blocks date)
+    (volume-long name directory blocks date c.args.name.kept c.requires.few (omega (arith, c.ranges.blocks.fits))) (boot-long date) (directory-long directory date) (left-long directory blocks date)
     c.fill.new.self c.put_first.new.block c.put_first-2.new.block c.put_first-3.new.block c.put_first-4.new.block
     zeros
     (c.put_first.ensures.put ∙ ap (stored c.fill.new.self 0) (c.volume_entry.ensures ∙ ap (λ n. volume_entry name directory n date) c.from.ensures))
