@@ -33,7 +33,8 @@ fn month_length(year: u32, month: u32) -> u32
 }
 
 impl Date {
-    // The day that is given, or the refusal of what is no calendar day of 1983 to 2155.
+    // The day that is given, or the refusal of what is no calendar day of 1983 to 2155. The casts are proved to fit
+    // by the pattern: a `try_from` would add an error that cannot come.
     pub fn new(year: u32, month: u32, day: u32) -> Result<Date, Refusal>
         ensures { MatchResult result (λ date. (is_day year month day ≡ true) × (date.year ≡ year) × (date.month ≡ month) × (date.day ≡ day)) (λ e. (is_day year month day ≡ false) × (e ≡ OutOfRange)) }
     {

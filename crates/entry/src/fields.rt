@@ -1,4 +1,5 @@
-// The fields of an entry, read from their places in its 26 bytes.
+// The fields of an entry, read from their places in its 26 bytes. One method for each, and not one over a trait of
+// fields: place, type and name differ in each, and such a trait would state all three again beside the method.
 ghost use Rattle.std.specs.Prelude.{◌≡◌, ◌*◌, ◌%◌};
 ghost use Rattle.entry.specs.Fields.{attributes_of, check_bytes, check_of, date_of, directory_of, entry_in, first_of, last_of, name_of, put_in, room_of, size_of, used_of};
 ghost use Rattle.entry.specs.Lengths.{length_of};
