@@ -2,7 +2,9 @@
 --   characters-field   a name field reads back as the name that it was made of
 --   field-field        a name field is its own name field
 --   whole_field, stem_field, volume_field   a name field keeps the rules that its name keeps
-use Rattle.std.proofs.Common.{◌≡◌, ℕ, ◌-◌, Bool, true, false, cond, not, ◌&&◌, ◌||◌, eqb, List, [], ◌∷◌, ◌++◌, length, replicate, codes, refl, ap, ◌∙◌}
+--   whole_short, stem_short, volume_short   a name that keeps its rule has at most eleven characters
+use Rattle.std.proofs.Common.{◌≡◌, ℕ, ◌-◌, ◌≤◌, Bool, true, false, cond, not, ◌&&◌, ◌||◌, eqb, List, [], ◌∷◌, ◌++◌, length, replicate, codes, refl, ap, ◌∙◌, lit≤, le_trans, nat_le}
+use Rattle.std.proofs.lemmas.Bool.{and_parts, leb-true}
 use Rattle.std.specs.Str.{bytes_eq}
 use Rattle.names.specs.Names.{characters, is_stem, is_volume, is_whole, last_is_letter, name_field, spelled}
 
@@ -30,3 +32,17 @@ stem_field given = ap (spelled 1 10) (characters-field given)
 
 pub volume_field : (given : List ℕ) → is_volume (name_field given) ≡ is_volume given
 volume_field given = ap (spelled 1 11) (characters-field given)
+
+-- so many characters, and no more
+at_most : (low high : ℕ) (cs : List ℕ) → high ≤ 11 → spelled low high cs ≡ true → length cs ≤ 11
+at_most low high cs few h =
+    le_trans (leb-true (length cs) high (and_parts (nat_le (length cs) high) _ (and_parts (nat_le low (length cs)) _ h).1).0) few
+
+pub whole_short : (given : List ℕ) → is_whole given ≡ true → length (characters given) ≤ 11
+whole_short given h = at_most 2 11 (characters given) (lit≤ tt) (and_parts (spelled 2 11 (characters given)) _ h).0
+
+pub stem_short : (given : List ℕ) → is_stem given ≡ true → length (characters given) ≤ 11
+stem_short given h = at_most 1 10 (characters given) (lit≤ tt) h
+
+pub volume_short : (given : List ℕ) → is_volume given ≡ true → length (characters given) ≤ 11
+volume_short given h = at_most 1 11 (characters given) (lit≤ tt) h

@@ -1,8 +1,7 @@
 // The rules that names keep.
 ghost use Rattle.std.specs.Prelude.{◌≡◌, ◌≤◌, Bool, List, length, true, ℕ};
-ghost use Rattle.std.proofs.Common.{rules};
 ghost use Rattle.names.specs.Names.{characters as characters_of, is_reserved, is_stem, is_volume, is_whole, last_is_letter, name_field, printable, spelled};
-ghost use Rattle.names.specs.Kept.{stem_field, volume_field, whole_field};
+ghost use Rattle.names.specs.Kept.{stem_field, stem_short, volume_field, volume_short, whole_field, whole_short};
 
 use crate::given::{characters, same};
 
@@ -63,7 +62,7 @@ pub struct WholeRule;
 impl Rule for WholeRule {
     ghost rule = { is_whole };
 
-    ghost short = { Prim.search rules };
+    ghost short = { whole_short };
 
     ghost same = { whole_field };
 
@@ -80,7 +79,7 @@ pub struct StemRule;
 impl Rule for StemRule {
     ghost rule = { is_stem };
 
-    ghost short = { Prim.search rules };
+    ghost short = { stem_short };
 
     ghost same = { stem_field };
 
@@ -96,7 +95,7 @@ pub struct VolumeRule;
 impl Rule for VolumeRule {
     ghost rule = { is_volume };
 
-    ghost short = { Prim.search rules };
+    ghost short = { volume_short };
 
     ghost same = { volume_field };
 
