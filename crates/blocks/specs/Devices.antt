@@ -2,6 +2,7 @@
 --   Device                    the bytes and the mark of each block, and the write-protect tab
 --   size_of                   how many blocks it has
 --   block_at, mark_at         the bytes and the mark of a block
+--   range_fault               why a block and a buffer's length are refused for their range, if they are
 --   read_fault, write_fault   why reading or writing a block is refused, if it is
 --   refusal_of                the refusal that a fault is to a caller of the unit
 --   outcome                   the reply to that
@@ -51,6 +52,10 @@ refusal_of (BadBlock depth place) = Refused22 depth place
 -- A block below the size, and a buffer of 1,024 bytes.
 abbrev pub in_range : Device → ℕ → ℕ → Bool
 in_range d b len = nat_lt b (size_of d) && len == 1024
+
+-- The same test at the size alone.
+abbrev pub range_fault : ℕ → ℕ → ℕ → Option Fault
+range_fault b size len = cond (nat_lt b size && len == 1024) None (Some (OutOfRange b))
 
 abbrev pub mark_fault : Mark → Option Fault
 mark_fault Sound = None

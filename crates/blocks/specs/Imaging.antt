@@ -8,6 +8,7 @@ use Rattle.blocks.specs.Devices.{ShallowMark, ShallowTab, block_at, in_range, ma
 use Rattle.blocks.specs.Images.{encoded, image_block, image_of, is_image, numbered, tab_of, tabulated}
 use Rattle.blocks.specs.declared.faults.Fault.TheVariants.{OutOfRange}
 use Rattle.blocks.specs.declared.faults.Mark.TheVariants.{Sound}
+use Rattle.blocks.specs.declared.faults.Tab.{Tab}
 use Rattle.parts.proofs.Storing.{length-stored, part-aside, part-itself}
 use Rattle.parts.specs.Parts.{stored}
 use Rattle.blocks.specs.Tables.{get_or-tabulated, length-tabulated, tabulated-past, tabulated-set}
@@ -67,6 +68,11 @@ pub tab-shallow : (p : Bool) → ShallowTab (tab_of p)
 tab-shallow true = lit≤ tt
 tab-shallow false = tt
 
+-- the tab lets a write pass only where it is off
+pub tab-off : (p : Bool) (t : Tab) → t ≡ tab_of p → Ok tt ≡ outcome (tab_fault t None) → p ≡ false
+tab-off true t e passed = absurd (let z = ap (λ u. outcome (tab_fault u None)) (sym e) ∙ sym passed in cc)
+tab-off false t e passed = refl
+
 pub image-shallow : (xs : List ℕ) (p : Bool) (b : ℕ) → ShallowMark (mark_at (image_of xs p) b) × ShallowTab (image_of xs p).tab
 image-shallow xs p b = (subst ShallowMark (sym (sound-everywhere (length xs / 1024) b)) tt, tab-shallow p)
 
@@ -87,13 +93,13 @@ encoded-image xs p whole =
 
 -- a read in range
 module _ (xs : List ℕ) (p : Bool) (whole : is_image xs ≡ true) (b len : ℕ) (inside : in_range (image_of xs p) b len ≡ true) where
-  size-and-length : (b < size_of (image_of xs p)) × (len ≡ 1024)
+  pub size-and-length : (b < size_of (image_of xs p)) × (len ≡ 1024)
   size-and-length =
       let parts = and_parts (nat_lt b (size_of (image_of xs p))) (len == 1024) inside in
       (ltb-true b (size_of (image_of xs p)) parts.0, eqb-true len 1024 parts.1)
 
-  pub image-fits : 1024 * b + len ≤ length xs
-  image-fits = omega (arith, image-end xs p whole b size-and-length.0, size-and-length.1)
+  pub image-fits : 1024 * b + 1024 ≤ length xs
+  image-fits = image-end xs p whole b size-and-length.0
 
   granted : read_fault (image_of xs p) b len ≡ None
   granted =
@@ -102,9 +108,9 @@ module _ (xs : List ℕ) (p : Bool) (whole : is_image xs ≡ true) (b len : ℕ)
   pub image-read : Ok tt ≡ outcome (read_fault (image_of xs p) b len)
   image-read = sym (ap outcome granted)
 
-  pub image-filled : (buffer : List ℕ) → take len (drop (1024 * b) xs) ≡ read_out (read_fault (image_of xs p) b len) (block_at (image_of xs p) b) buffer
-  image-filled buffer =
-      ap (λ l. take l (drop (1024 * b) xs)) size-and-length.1 ∙ sym (image-block xs p whole b size-and-length.0)
+  pub image-filled : (n : ℕ) → n ≡ 1024 → (buffer : List ℕ) → take n (drop (1024 * b) xs) ≡ read_out (read_fault (image_of xs p) b len) (block_at (image_of xs p) b) buffer
+  image-filled n e buffer =
+      ap (λ l. take l (drop (1024 * b) xs)) e ∙ sym (image-block xs p whole b size-and-length.0)
       ∙ sym (ap (λ o. read_out o (block_at (image_of xs p) b) buffer) granted)
 
   pub image-written-none : p ≡ false → write_fault (image_of xs p) b len ≡ None
@@ -117,8 +123,8 @@ module _ (xs : List ℕ) (p : Bool) (whole : is_image xs ≡ true) (b len : ℕ)
   image-after ys e off =
       let at = 1024 * b in
       let n = length xs / 1024 in
-      let fits : at + length ys ≤ length xs = omega (arith, image-fits) in
       let wide : length ys ≡ 1024 = omega (arith, size-and-length.1) in
+      let fits : at + length ys ≤ length xs = omega (arith, image-fits) in
       ap (λ m. numbered (m / 1024) (image_block (stored xs at ys)) (λ _. Sound) (tab_of p)) (length-stored xs at ys fits)
       ∙ ap (λ bs. record { blocks = bs; marks = tabulated n (λ _. Sound); tab = tab_of p })
       (tabulated-set n (image_block xs) (image_block (stored xs at ys)) b ys (omega (arith, size-and-length.0, image-size xs p))
@@ -132,5 +138,5 @@ module _ (xs : List ℕ) (p : Bool) (whole : is_image xs ≡ true) (b len : ℕ)
 
   pub image-whole : (ys : List ℕ) → length ys ≡ len → is_image (stored xs (1024 * b) ys) ≡ true
   image-whole ys e =
-      let fits : 1024 * b + length ys ≤ length xs = omega (arith, image-fits) in
+      let fits : 1024 * b + length ys ≤ length xs = omega (arith, image-fits, size-and-length.1) in
       ap (λ m. (m % 1024 == 0) && (nat_le 1 (m / 1024) && nat_le (m / 1024) 65535)) (length-stored xs (1024 * b) ys fits) ∙ whole

@@ -5,3 +5,4 @@ pub mod Imaging
 pub mod Tables
 pub mod Layering
 pub mod Through
+pub mod Ranges

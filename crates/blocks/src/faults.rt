@@ -1,19 +1,22 @@
 // What a device can refuse, and what it marks.
-ghost use Rattle.std.specs.Prelude.{◌≡◌};
-ghost use Rattle.blocks.specs.Devices.{listed, refusal_of};
+ghost use Rattle.std.specs.Prelude.{◌≡◌, None};
+ghost use Rattle.blocks.specs.Devices.{listed, mark_fault, outcome, refusal_of, tab_fault};
+ghost use Rattle.blocks.specs.Images.{tab_of};
 ghost use Rattle.blocks.specs.Layers.{deeper as deeper_of, deeper_fault, deeper_tab};
 
 use refusal::Refusal;
 
 // Whether a block can be read and written. A bad block has a depth, the layers between the device that marked it and
-// the one that is asked, and a place, the number that device gave it.
+// the one that is asked, and a place, the number that device gave it. An enum of its own: an `Option` of the two numbers
+// would not say which is the bad block. The two stand side by side here, in a fault and in a refusal, which is how a
+// caller is told them: a struct for them would be one more name on each of those lines.
 #[derive(Clone, Copy, PartialEq, Eq, Debug)]
 pub enum Mark {
     Sound,
     Bad { depth: u8, place: u16 },
 }
 
-// The write-protect tab: off, or on at a depth.
+// The write-protect tab: off, or on at a depth. An enum of its own: an `Option<u8>` would not say which of them is on.
 #[derive(Clone, Copy, PartialEq, Eq, Debug)]
 pub enum Tab {
     Off,
@@ -93,7 +96,40 @@ impl From<Fault> for Refusal {
     }
 }
 
+impl Mark {
+    // Refuses a bad block.
+    pub fn check(self) -> Result<(), Fault>
+        ensures { result ≡ outcome (mark_fault self) }
+    {
+        match self {
+            Mark::Sound => Ok(()),
+            Mark::Bad { depth, place } => Err(Fault::BadBlock { depth, place }),
+        }
+    }
+}
+
 impl Tab {
+    // The tab of a device with no layer over it.
+    pub fn own(protected: bool) -> Tab
+        ensures { result ≡ tab_of protected }
+    {
+        if protected {
+            Tab::On { depth: 0 }
+        } else {
+            Tab::Off
+        }
+    }
+
+    // Refuses a write where the tab is on.
+    pub fn check(self) -> Result<(), Fault>
+        ensures { result ≡ outcome (tab_fault self None) }
+    {
+        match self {
+            Tab::Off => Ok(()),
+            Tab::On { depth } => Err(Fault::WriteProtected { depth }),
+        }
+    }
+
     // The tab as a layer passes it up.
     pub fn deeper(self) -> Tab
         ensures { result ≡ deeper_tab self }

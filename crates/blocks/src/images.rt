@@ -7,10 +7,11 @@ ghost use Rattle.blocks.specs.Imaging.{image-sized, image-wide, image-small, ima
 
 use crate::device::BlockDevice;
 use crate::faults::{Fault, Tab};
-use crate::layers::{BLOCK, is_in_range};
+use crate::layers::{BLOCK, check_range};
 use crate::rejected::Rejected;
 use refusal::Refusal;
 
+// `protected` is a flag and not a `Tab`: an image's own tab is never at a depth.
 #[derive(Drop)]
 pub struct Image {
     bytes: Vec<u8>,
@@ -26,34 +27,11 @@ fn is_image(bytes: &[u8]) -> bool
     bytes.len() % BLOCK == 0 && bytes.len() / BLOCK >= 1 && bytes.len() / BLOCK <= 65_535
 }
 
-// What the type of bytes says, for the invariant: each is below 256.
-fn are_small(bytes: &[u8])
-    ensures { (i : ℕ) → slice_index bytes.now i < 256 }
-{
-    let _ = bytes.first();
-}
-
 // Where a block begins.
 fn start_of(block: u32) -> usize
     ensures { result ≡ 1024 * block }
 {
     BLOCK * block as usize
-}
-
-// Copies bytes from a place on into a buffer.
-fn copy_out(bytes: &[u8], at: usize, buffer: &mut [u8])
-    requires { at + length buffer.old ≤ length bytes.now }
-    ensures { buffer.new ≡ take (length buffer.old) (drop at bytes.now) }
-{
-    buffer.copy_from_slice(&bytes[at..at + buffer.len()]);
-}
-
-// Puts a buffer over bytes from a place on.
-fn copy_in(bytes: &mut [u8], at: usize, buffer: &[u8])
-    requires { at + length buffer.now ≤ length bytes.old }
-    ensures { bytes.new ≡ stored bytes.old at buffer.now }
-{
-    bytes[at..at + buffer.len()].copy_from_slice(buffer);
 }
 
 impl Image {
@@ -67,7 +45,6 @@ impl Image {
                 given: bytes,
             });
         }
-        are_small(bytes.as_slice());
         Ok(Image { bytes, protected })
     }
 
@@ -82,8 +59,7 @@ impl Image {
     pub fn into_bytes(self) -> Vec<u8>
         ensures { result.items ≡ encoded (image_of self.bytes.items self.protected) }
     {
-        let Image { bytes, .. } = self;
-        bytes
+        self.bytes
     }
 }
 
@@ -105,29 +81,21 @@ impl BlockDevice for Image {
     }
 
     fn tab(&self) -> Tab {
-        if self.protected {
-            Tab::On { depth: 0 }
-        } else {
-            Tab::Off
-        }
+        Tab::own(self.protected)
     }
 
     fn read(&self, block: u32, buffer: &mut [u8]) -> Result<(), Fault> {
-        if !is_in_range(block, self.size(), buffer.len()) {
-            return Err(Fault::OutOfRange { place: block });
-        }
-        copy_out(self.bytes.as_slice(), start_of(block), buffer);
+        check_range(block, self.size(), buffer.len())?;
+        let at = start_of(block);
+        buffer.copy_from_slice(&self.bytes[at..at + BLOCK]);
         Ok(())
     }
 
     fn write(&mut self, block: u32, buffer: &[u8]) -> Result<(), Fault> {
-        if !is_in_range(block, self.size(), buffer.len()) {
-            return Err(Fault::OutOfRange { place: block });
-        }
-        if self.protected {
-            return Err(Fault::WriteProtected { depth: 0 });
-        }
-        copy_in(self.bytes.as_mut_slice(), start_of(block), buffer);
+        check_range(block, self.size(), buffer.len())?;
+        self.tab().check()?;
+        let at = start_of(block);
+        self.bytes[at..at + BLOCK].copy_from_slice(buffer);
         Ok(())
     }
 }

@@ -12,7 +12,7 @@ mod windows;
 pub use device::BlockDevice;
 pub use faults::{Fault, Mark, Tab};
 pub use images::Image;
-pub use layers::BLOCK;
+pub use layers::{BLOCK, check_range};
 pub use protects::WriteProtect;
 pub use rejected::Rejected;
 pub use windows::Window;

@@ -7,8 +7,10 @@ ghost use Rattle.blocks.specs.Devices.{ShallowMark, mark_at};
 
 use crate::device::BlockDevice;
 use crate::faults::{Fault, Tab};
-use crate::layers::{is_in_range, pass_up};
+use crate::layers::check_range;
 
+// A type beside `Window`, and not the two as one generic layer: they share the device below and the way back to it, and a
+// trait that says which blocks and which tab a layer has would be longer than both.
 #[derive(Drop)]
 pub struct WriteProtect<D> {
     inner: D,
@@ -32,8 +34,7 @@ impl<D> WriteProtect<D> {
     pub fn into_inner(self) -> D
         ensures { result ≡ self.inner }
     {
-        let WriteProtect { inner } = self;
-        inner
+        self.inner
     }
 }
 
@@ -63,16 +64,12 @@ impl<D: BlockDevice> BlockDevice for WriteProtect<D> {
     }
 
     fn read(&self, block: u32, buffer: &mut [u8]) -> Result<(), Fault> {
-        if !is_in_range(block, self.inner.size(), buffer.len()) {
-            return Err(Fault::OutOfRange { place: block });
-        }
-        pass_up(self.inner.read(block, buffer))
+        check_range(block, self.inner.size(), buffer.len())?;
+        self.inner.read(block, buffer).map_err(Fault::deeper)
     }
 
     fn write(&mut self, block: u32, buffer: &[u8]) -> Result<(), Fault> {
-        if !is_in_range(block, self.inner.size(), buffer.len()) {
-            return Err(Fault::OutOfRange { place: block });
-        }
+        check_range(block, self.inner.size(), buffer.len())?;
         Err(Fault::WriteProtected { depth: 0 })
     }
 }

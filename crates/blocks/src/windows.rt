@@ -7,7 +7,7 @@ ghost use Rattle.blocks.specs.Through.{window-sized, window-wide, window_bytes, 
 
 use crate::device::BlockDevice;
 use crate::faults::{Fault, Tab};
-use crate::layers::{is_in_range, pass_up};
+use crate::layers::check_range;
 use crate::rejected::Rejected;
 use refusal::Refusal;
 
@@ -32,8 +32,7 @@ impl<D> Window<D> {
     pub fn into_inner(self) -> D
         ensures { result ≡ self.inner }
     {
-        let Window { inner, .. } = self;
-        inner
+        self.inner
     }
 }
 
@@ -101,18 +100,18 @@ impl<D: BlockDevice> BlockDevice for Window<D> {
 
     fn read(&self, block: u32, buffer: &mut [u8]) -> Result<(), Fault> {
         let (first, size) = self.span();
-        if !is_in_range(block, size, buffer.len()) {
-            return Err(Fault::OutOfRange { place: block });
-        }
-        pass_up(self.inner.read(first + block, buffer))
+        check_range(block, size, buffer.len())?;
+        self.inner
+            .read(first + block, buffer)
+            .map_err(Fault::deeper)
     }
 
     fn write(&mut self, block: u32, buffer: &[u8]) -> Result<(), Fault> {
         let (first, size) = self.span();
-        if !is_in_range(block, size, buffer.len()) {
-            return Err(Fault::OutOfRange { place: block });
-        }
-        pass_up(self.inner.write(first + block, buffer))
+        check_range(block, size, buffer.len())?;
+        self.inner
+            .write(first + block, buffer)
+            .map_err(Fault::deeper)
     }
 }
 
@@ -120,8 +119,7 @@ impl<D: BlockDevice> BlockDevice for Window<D> {
 fn fits(size: u32, first: u32, count: u32) -> bool
     ensures { result ≡ nat_le 1 count && nat_le (first + count) size }
 {
-    match first.checked_add(count) {
-        Some(end) => count >= 1 && end <= size,
-        None => false,
-    }
+    first
+        .checked_add(count)
+        .is_some_and(|end| count >= 1 && end <= size)
 }

@@ -4,6 +4,8 @@
 #[cfg(test)]
 mod disk_tests;
 #[cfg(test)]
+mod fault_tests;
+#[cfg(test)]
 mod image_tests;
 #[cfg(test)]
 mod layer_tests;

@@ -43,7 +43,8 @@ fn check_depth<D: BlockDevice>(rt: &impl Abort, device: &mut D, depth: u8) {
     check_halves(rt, device, 159, 62, 59);
 }
 
-// The windows are piled from function to function, so that no proof is about more than four of them.
+// The windows are piled from function to function, and not in one that is given the depth: no proof is then about more
+// than four of them, and no type is named with sixteen.
 fn check_from_4<D: BlockDevice + Drop>(rt: &impl Abort, mut device: D) -> Result<(), Fail> {
     check_depth(rt, &mut device, 4);
     check_from_8(rt, four(device)?)

@@ -21,10 +21,8 @@ pub(crate) fn blocks_of(heap: Global, values: &[u8]) -> Result<Vec<u8>, AllocErr
 
 // An image of three blocks: of ones, of twos and of threes.
 pub(crate) fn image(heap: Global, protected: bool) -> Result<Image, Fail> {
-    let Ok(image) = Image::new(blocks_of(heap, &[1, 2, 3])?, protected) else {
-        return Err(Fail::new("three blocks are an image"));
-    };
-    Ok(image)
+    let bytes = blocks_of(heap, &[1, 2, 3])?;
+    Image::new(bytes, protected).map_err(|_| Fail::new("three blocks are an image"))
 }
 
 // The 320 records of a disk. Each is filled with its number, less 256 from record 256 on, and all are good.
@@ -37,7 +35,8 @@ pub(crate) fn records(heap: Global) -> Result<Vec<u8>, AllocError> {
     Ok(bytes)
 }
 
-// Puts a byte at so many places from a place on.
+// Puts a byte at so many places from a place on. By an iterator and not by `fill` of a part, which would ask that the
+// part lies within.
 pub(crate) fn put(bytes: &mut [u8], at: usize, count: usize, value: u8) {
     for byte in bytes.iter_mut().skip(at).take(count) {
         *byte = value;
@@ -63,10 +62,8 @@ pub(crate) fn disk(
     status: u8,
     protected: bool,
 ) -> Result<SectorDisk, Fail> {
-    let Ok(disk) = SectorDisk::new(records_with(heap, record, status)?, protected) else {
-        return Err(Fail::new("320 records are a disk"));
-    };
-    Ok(disk)
+    let bytes = records_with(heap, record, status)?;
+    SectorDisk::new(bytes, protected).map_err(|_| Fail::new("320 records are a disk"))
 }
 
 // So many blocks of a device from a first one on.
@@ -75,10 +72,7 @@ pub(crate) fn window<D: BlockDevice + Drop>(
     first: u32,
     count: u32,
 ) -> Result<Window<D>, Fail> {
-    let Ok(window) = Window::new(device, first, count) else {
-        return Err(Fail::new("the device has these blocks"));
-    };
-    Ok(window)
+    Window::new(device, first, count).map_err(|_| Fail::new("the device has these blocks"))
 }
 
 // Checks that what was refused is handed back with the number 17, so many bytes of it.
@@ -134,7 +128,7 @@ pub(crate) fn check_no_read<D: BlockDevice>(rt: &impl Abort, device: &D, block: 
     assert!(rt; buffer == [0xee; 1024]);
 }
 
-// Checks that a block cannot be written.
+// Checks that a block cannot be written. Beside `check_no_read` and not one with it: only a read has a buffer to leave.
 pub(crate) fn check_no_write<D: BlockDevice>(
     rt: &impl Abort,
     device: &mut D,

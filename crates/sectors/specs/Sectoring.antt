@@ -1,17 +1,17 @@
 -- Records as a device: its laws, its blocks, a write, and the records again. Assumes nothing.
-use Rattle.std.specs.Prelude.{◌≡◌, ℕ, zero, suc, ◌+◌, ◌-◌, ◌*◌, ◌/◌, ◌%◌, ◌<◌, ◌≤◌, Bool, true, false, cond, ◌&&◌, ◌⊎◌, List, [], ◌∷◌, ◌++◌, map, length, take, drop, set, Some, None, ◌==◌, ◌≢◌, nat_eq, nat_lt, slice_index, slice_set, refl}
+use Rattle.std.specs.Prelude.{◌≡◌, ℕ, zero, suc, ◌+◌, ◌-◌, ◌*◌, ◌/◌, ◌%◌, ◌<◌, ◌≤◌, Bool, true, false, cond, ◌&&◌, ◌⊎◌, List, [], ◌∷◌, ◌++◌, map, length, take, drop, set, None, ◌==◌, ◌≢◌, nat_lt, slice_index, slice_set, refl}
 use Rattle.std.proofs.Math.Path.{sym}
 use Rattle.std.proofs.Common.{ap, ap₂, subst, ◌∙◌, append-nil, inl, inr, ⊎_elim, arith, lit<, lit≤, take-add}
+use borrow.Rule.Slice.PartMut.{put_mid}
 use Rattle.std.specs.List.{range_with_len, flat_map}
 use Rattle.std.proofs.lemmas.List.{drop_all, drop_at, drop-drop, get_or_append_left, get_or-append_right, get_or-drop, get_or_past, get_or-take, length-append, length-drop, length-take, take_all, take-append-drop, take_at, take_more}
 use Rattle.std.proofs.lemmas.Bool.{and_parts, cases_lt, cases_order, eqb-true, ltb-true}
-use Rattle.blocks.specs.Devices.{ShallowMark, ShallowTab, block_at, in_range, mark_at, mark_fault, read_fault, size_of, tab_fault, write_fault, written}
+use Rattle.blocks.specs.Devices.{ShallowMark, ShallowTab, block_at, in_range, mark_at, size_of, written}
 use Rattle.blocks.specs.Images.{tab_of, tabulated}
 use Rattle.parts.specs.Parts.{stored}
-use Rattle.blocks.specs.declared.faults.Fault.TheVariants.{OutOfRange}
 use Rattle.blocks.specs.declared.faults.Mark.TheVariants.{Sound, Bad}
 use Rattle.blocks.specs.Imaging.{tab-shallow}
-use Rattle.parts.proofs.Storing.{length-stored, part-aside, part-itself, stored-before, stored-behind, stored-small}
+use Rattle.parts.proofs.Storing.{length-stored, part-aside, part-itself, stored-before, stored-behind}
 use Rattle.blocks.specs.Tables.{get_or-tabulated, length-tabulated, tabulated-past, tabulated-same, tabulated-set}
 use Rattle.sectors.specs.Disks.{block_count, disk_block, disk_mark, disk_of, encoded_disk, is_disk, is_good, record_count, sector_bytes, sector_in, sector_of, start_of, statuses, step_back}
 use Rattle.sectors.specs.Interleave.{record_of, sector_count, step_size, track_count}
@@ -81,6 +81,9 @@ disk-small xs p small b i = by (cases_lt b block_count)
         (append-small (sector_bytes xs (2 * b)) (sector_bytes xs (2 * b + 1)) (λ j. part_small xs (start_of (2 * b)) 512 j small) (λ j. part_small xs (start_of (2 * b + 1)) 512 j small) i)
     by (inr h) = subst (λ x. slice_index x i < 256) (sym (tabulated-past block_count (disk_block xs) b [] h)) (lit< tt)
 
+pub disk-mark-at : (xs : List ℕ) (p : Bool) (b : ℕ) → b < block_count → (good : Bool) → good ≡ is_good xs b → cond good Sound (Bad 0 b) ≡ mark_at (disk_of xs p) b
+disk-mark-at xs p b h good e = ap (λ t. cond t Sound (Bad 0 b)) e ∙ sym (get_or-tabulated block_count (disk_mark xs) b Sound h)
+
 pub disk-marked : (xs : List ℕ) (p : Bool) → length (disk_of xs p).marks ≡ size_of (disk_of xs p)
 disk-marked xs p = length-tabulated block_count (disk_mark xs) ∙ sym (disk-size xs p)
 
@@ -95,46 +98,17 @@ disk-shallow xs p b = (by (cases_lt b block_count), tab-shallow p)
     by (inl h) = subst ShallowMark (sym (get_or-tabulated block_count (disk_mark xs) b Sound h)) (mark-shallow (is_good xs b) b h)
     by (inr h) = subst ShallowMark (sym (tabulated-past block_count (disk_mark xs) b Sound h)) tt
 
--- the record that was found for a sector that the disk has
-pub record_is : (r v : ℕ) (t : Bool) → t ≡ true → Some r ≡ cond t (Some v) None → r ≡ v
-record_is r v true h e = cc
-record_is r v false h e = absurd (Rattle.std.proofs.lemmas.Bool.false≢true h)
-
 -- two halves put into a buffer of a block
-pub halves : (buffer one two : List ℕ) → length buffer ≡ 1024 → length one ≡ 512 → length two ≡ 512 → stored (stored buffer 0 one) 512 two ≡ one ++ two
-halves buffer one two l f s =
-    let first : stored buffer 0 one ≡ one ++ drop (length one) buffer = ap (λ n. one ++ drop n buffer) (let e : 0 + length one ≡ length one = omega arith in e) in
-    let all : length (one ++ drop (length one) buffer) ≡ 1024 = omega (arith, length-append one (drop (length one) buffer), length-drop (length one) buffer) in
-    ap (λ z. stored z 512 two) first
-    ∙ ap₂ (λ x y. x ++ (two ++ y)) (take_at one (drop (length one) buffer) 512 f) (drop_all (512 + length two) (one ++ drop (length one) buffer) (omega (arith, all)))
-    ∙ ap (λ z. one ++ z) (append-nil two)
+pub halves : (one rest two : List ℕ) (k : ℕ) → length one ≡ 512 → length rest ≤ k → put_mid 512 k (one ++ rest) two ≡ one ++ two
+halves one rest two k f h =
+    ap₂ (λ x y. x ++ (two ++ y)) (take_at one rest 512 f) (ap (drop k) (drop_at one rest 512 f) ∙ drop_all k rest h) ∙ ap (λ z. one ++ z) (append-nil two)
 
 -- a block in range
-module _ (xs : List ℕ) (p : Bool) (whole : is_disk xs ≡ true) (b len : ℕ) (in' : in_range (disk_of xs p) b len ≡ true) where
-  pub block-and-length : (b < block_count) × (len ≡ 1024)
-  block-and-length =
-      let parts = and_parts (nat_lt b (size_of (disk_of xs p))) (len == 1024) in' in
-      let l = ltb-true b (size_of (disk_of xs p)) parts.0 in
-      (omega (arith, disk-size xs p), eqb-true len 1024 parts.1)
-
-  fault-is : (good : Bool) → is_good xs b ≡ good → mark_fault (mark_at (disk_of xs p) b) ≡ mark_fault (cond good Sound (Bad 0 b))
-  fault-is good g =
-      ap mark_fault (get_or-tabulated block_count (disk_mark xs) b Sound block-and-length.0 ∙ ap (λ t. cond t Sound (Bad 0 b)) g)
-
-  pub read-fault : (good : Bool) → is_good xs b ≡ good → read_fault (disk_of xs p) b len ≡ mark_fault (cond good Sound (Bad 0 b))
-  read-fault good g = ap (λ t. cond t (mark_fault (mark_at (disk_of xs p) b)) (Some (OutOfRange b))) in' ∙ fault-is good g
-
-  pub write-fault : (good : Bool) → is_good xs b ≡ good → write_fault (disk_of xs p) b len ≡ tab_fault (tab_of p) (mark_fault (cond good Sound (Bad 0 b)))
-  write-fault good g =
-      ap (λ t. cond t (tab_fault (tab_of p) (mark_fault (mark_at (disk_of xs p) b))) (Some (OutOfRange b))) in' ∙ ap (tab_fault (tab_of p)) (fault-is good g)
-
-  pub disk-filled : (buffer : List ℕ) → length buffer ≡ len
-      → stored (stored buffer 0 (sector_bytes xs (2 * b))) 512 (sector_bytes xs (2 * b + 1)) ≡ block_at (disk_of xs p) b
-  disk-filled buffer e =
-      let l = block-and-length.0 in
-      let long = disk-length xs whole in
-      halves buffer (sector_bytes xs (2 * b)) (sector_bytes xs (2 * b + 1)) (omega (arith, block-and-length.1)) (length-sector xs (2 * b) long (omega arith)) (length-sector xs (2 * b + 1) long (omega arith))
-      ∙ sym (disk-block xs p b l)
+pub block-and-length : (xs : List ℕ) (p : Bool) (b len : ℕ) → in_range (disk_of xs p) b len ≡ true → (b < block_count) × (len ≡ 1024)
+block-and-length xs p b len in' =
+    let parts = and_parts (nat_lt b (size_of (disk_of xs p))) (len == 1024) in' in
+    let l = ltb-true b (size_of (disk_of xs p)) parts.0 in
+    (omega (arith, disk-size xs p), eqb-true len 1024 parts.1)
 
 -- the records after both sectors of a block were written
 module _ (xs : List ℕ) (long : length xs ≡ 513 * record_count) (b : ℕ) (l : b < block_count) (one two : List ℕ) (f : length one ≡ 512) (s : length two ≡ 512) where
@@ -146,9 +120,6 @@ module _ (xs : List ℕ) (long : length xs ≡ 513 * record_count) (b : ℕ) (l 
 
   pub fits-two : start_of (2 * b + 1) + length two ≤ length (stored xs (start_of (2 * b)) one)
   fits-two = omega (arith, long-one, start-within (2 * b + 1) (omega arith))
-
-  pub long-two : length (stored (stored xs (start_of (2 * b)) one) (start_of (2 * b + 1)) two) ≡ length xs
-  long-two = length-stored (stored xs (start_of (2 * b)) one) (start_of (2 * b + 1)) two fits-two ∙ long-one
 
   -- the place of another sector lies aside of both
   aside : (q : ℕ) → q < record_count → (w : ℕ) → w < record_count → (q ≢ w) → (n : ℕ) → n ≡ 512
@@ -246,16 +217,6 @@ module _ (xs : List ℕ) (p : Bool) (long : length xs ≡ 513 * record_count) wh
   pub encoded-disk : xs ≡ encoded_disk (disk_of xs p) (statuses xs)
   encoded-disk = all-pieces record_count refl
 
--- a block and a buffer as the disk itself tests them
-pub range-is : (xs : List ℕ) (p : Bool) (b len : ℕ) (t : Bool) → t ≡ (nat_lt b block_count && len == 1024) → in_range (disk_of xs p) b len ≡ t
-range-is xs p b len t e = ap (λ n. nat_lt b n && len == 1024) (disk-size xs p) ∙ sym e
-
-pub read-outside : (xs : List ℕ) (p : Bool) (b len : ℕ) → in_range (disk_of xs p) b len ≡ false → read_fault (disk_of xs p) b len ≡ Some (OutOfRange b)
-read-outside xs p b len h = ap (λ t. cond t (mark_fault (mark_at (disk_of xs p) b)) (Some (OutOfRange b))) h
-
-pub write-outside : (xs : List ℕ) (p : Bool) (b len : ℕ) → in_range (disk_of xs p) b len ≡ false → write_fault (disk_of xs p) b len ≡ Some (OutOfRange b)
-write-outside xs p b len h = ap (λ t. cond t (tab_fault (tab_of p) (mark_fault (mark_at (disk_of xs p) b))) (Some (OutOfRange b))) h
-
 -- a write of both halves of a buffer
 module _ (xs : List ℕ) (p : Bool) (whole : is_disk xs ≡ true) (b : ℕ) (l : b < block_count) (ys : List ℕ) (wide : length ys ≡ 1024) where
   half-one : length (take 512 ys) ≡ 512
@@ -269,21 +230,6 @@ module _ (xs : List ℕ) (p : Bool) (whole : is_disk xs ≡ true) (b : ℕ) (l :
 
   long : length xs ≡ 513 * record_count
   long = disk-length xs whole
-
-  pub written-long : length (stored (stored xs (start_of (2 * b)) (take 512 ys)) (start_of (2 * b + 1)) (take 512 (drop 512 ys))) ≡ length xs
-  written-long = long-two xs long b l (take 512 ys) (take 512 (drop 512 ys)) half-one half-two
-
-  pub written-whole : is_disk (stored (stored xs (start_of (2 * b)) (take 512 ys)) (start_of (2 * b + 1)) (take 512 (drop 512 ys))) ≡ true
-  written-whole = ap (λ n. nat_eq n (513 * record_count)) written-long ∙ whole
-
-  pub written_small : ((i : ℕ) → slice_index xs i < 256) → ((i : ℕ) → slice_index ys i < 256)
-      → (i : ℕ) → slice_index (stored (stored xs (start_of (2 * b)) (take 512 ys)) (start_of (2 * b + 1)) (take 512 (drop 512 ys))) i < 256
-  written_small old new =
-      stored-small (stored xs (start_of (2 * b)) (take 512 ys)) (start_of (2 * b + 1)) (take 512 (drop 512 ys))
-      (fits-two xs long b l (take 512 ys) (take 512 (drop 512 ys)) half-one half-two)
-      (stored-small xs (start_of (2 * b)) (take 512 ys) (fits_one xs long b l (take 512 ys) (take 512 (drop 512 ys)) half-one half-two) old
-      (λ j. part_small ys 0 512 j new))
-      (λ j. part_small ys 512 512 j new)
 
   pub written-statuses : statuses (stored (stored xs (start_of (2 * b)) (take 512 ys)) (start_of (2 * b + 1)) (take 512 (drop 512 ys))) ≡ statuses xs
   written-statuses = statuses-kept xs long b l (take 512 ys) (take 512 (drop 512 ys)) half-one half-two

@@ -1,13 +1,13 @@
 // The sector disk: 320 records of 512 bytes and a status byte, as 160 blocks of two sectors each.
-ghost use Rattle.std.specs.Prelude.{◌≡◌, ℕ, ◌+◌, ◌*◌, ◌<◌, ◌≤◌, true, false, ◌&&◌, length, take, drop, MatchResult, ◌==◌, nat_lt, slice_index};
-ghost use Rattle.blocks.specs.Devices.{outcome, write_fault, written};
+ghost use Rattle.std.specs.Prelude.{◌≡◌, ℕ, ◌+◌, ◌*◌, ◌<◌, ◌≤◌, true, false, length, None, Ok, Err, MatchResult, slice_index};
+ghost use Rattle.blocks.specs.Devices.{block_at, mark_at, outcome, range_fault, size_of, write_fault, written};
 ghost use Rattle.parts.specs.Parts.{stored};
 ghost use Rattle.refusal.specs.declared.Refusal.TheVariants.{OutOfRange};
-ghost use Rattle.sectors.specs.Disks.{block_count, disk_of, encoded_disk, is_disk as is_disk_of, is_good, record_count, sector_bytes, start_of, statuses};
+ghost use Rattle.sectors.specs.Disks.{block_count, disk_of, encoded_disk, is_disk as is_disk_of, is_good, record_count, start_of, statuses};
 ghost use Rattle.sectors.specs.Sectoring.{disk-sized, disk-wide, disk-small, disk-marked, disk-shallow};
 
-use crate::interleave::record_of;
-use blocks::{BLOCK, BlockDevice, Fault, Rejected, Tab};
+use crate::interleave::interleaved;
+use blocks::{BLOCK, BlockDevice, Fault, Mark, Rejected, Tab, check_range};
 use refusal::Refusal;
 
 // The bytes of a sector.
@@ -22,6 +22,7 @@ const BLOCKS: u32 = 160;
 // The bytes of a disk.
 pub const DISK: usize = 164_160;
 
+// `protected` is a flag and not a `Tab`: a disk's own tab is never at a depth.
 #[derive(Drop)]
 pub struct SectorDisk {
     bytes: Vec<u8>,
@@ -30,11 +31,22 @@ pub struct SectorDisk {
     ghost small: { (i : ℕ) → slice_index bytes.items i < 256 },
 }
 
-// What the type of bytes says, for the invariant: each is below 256.
-fn are_small(bytes: &[u8])
-    ensures { (i : ℕ) → slice_index bytes.now i < 256 }
-{
-    let _ = bytes.first();
+// A block that the disk has.
+#[derive(Clone, Copy)]
+struct Place {
+    block: u16,
+    ghost on_disk: { block < block_count },
+}
+
+impl Place {
+    // Where the records of its two sectors begin.
+    fn starts(self) -> (usize, usize)
+        ensures first { result.0 ≡ start_of (2 * self.block) }
+        ensures second { result.1 ≡ start_of (2 * self.block + 1) }
+        ensures within { (result.0 + 513 ≤ 513 * record_count) × (result.1 + 513 ≤ 513 * record_count) }
+    {
+        (start_of(2 * self.block), start_of(2 * self.block + 1))
+    }
 }
 
 // Where the record of a sector begins.
@@ -43,28 +55,7 @@ fn start_of(sector: u16) -> usize
     ensures value { result ≡ start_of sector }
     ensures within { result + 513 ≤ 513 * record_count }
 {
-    match record_of(sector) {
-        Some(record) => RECORD * usize::from(record),
-        None => unreachable(),
-    }
-}
-
-// Copies a sector's bytes from one place to another.
-fn copy_sector(to: &mut [u8], at: usize, from: &[u8], start: usize)
-    requires to { at + 512 ≤ length to.old }
-    requires from { start + 512 ≤ length from.now }
-    ensures { to.new ≡ stored to.old at (take 512 (drop start from.now)) }
-{
-    to[at..at + SECTOR].copy_from_slice(&from[start..start + SECTOR]);
-}
-
-// Whether the two sectors of a block are good.
-fn is_good(bytes: &[u8], block: u16) -> bool
-    requires whole { length bytes.now ≡ 513 * record_count }
-    requires block { block < block_count }
-    ensures { result ≡ is_good bytes.now block }
-{
-    bytes[start_of(2 * block) + SECTOR] == 0 && bytes[start_of(2 * block + 1) + SECTOR] == 0
+    RECORD * usize::from(interleaved(sector))
 }
 
 impl SectorDisk {
@@ -78,7 +69,6 @@ impl SectorDisk {
                 given: bytes,
             });
         }
-        are_small(bytes.as_slice());
         Ok(SectorDisk { bytes, protected })
     }
 
@@ -93,8 +83,69 @@ impl SectorDisk {
     pub fn into_bytes(self) -> Vec<u8>
         ensures { result.items ≡ encoded_disk (disk_of self.bytes.items self.protected) (statuses self.bytes.items) }
     {
-        let SectorDisk { bytes, .. } = self;
-        bytes
+        self.bytes
+    }
+
+    // A block that is asked for with a buffer of such a length.
+    fn find(&self, block: u32, len: usize) -> Result<Place, Fault>
+        ensures { MatchResult result (λ place. (Ok tt ≡ outcome (range_fault block (size_of (disk_of self.now.bytes.items self.now.protected)) len)) × (place.block ≡ block)) (λ fault. Err fault ≡ outcome (range_fault block (size_of (disk_of self.now.bytes.items self.now.protected)) len)) }
+    {
+        check_range(block, self.size(), len)?;
+        Ok(Place {
+            block: block as u16,
+        })
+    }
+
+    // Whether the two sectors of a block are good.
+    fn is_good(&self, place: Place) -> bool
+        ensures { result ≡ is_good self.now.bytes.items place.block }
+    {
+        let (first, second) = place.starts();
+        self.bytes[first + SECTOR] == 0 && self.bytes[second + SECTOR] == 0
+    }
+
+    fn mark(&self, place: Place) -> Mark
+        ensures { result ≡ mark_at (disk_of self.now.bytes.items self.now.protected) place.block }
+    {
+        if self.is_good(place) {
+            Mark::Sound
+        } else {
+            Mark::Bad {
+                depth: 0,
+                place: place.block,
+            }
+        }
+    }
+
+    // Copies the two sectors of a block into a buffer.
+    fn read_block(&self, place: Place, buffer: &mut [u8])
+        requires { length buffer.old ≡ 1024 }
+        ensures { buffer.new ≡ block_at (disk_of self.now.bytes.items self.now.protected) place.block }
+    {
+        let (first, second) = place.starts();
+        buffer[..SECTOR].copy_from_slice(&self.bytes[first..first + SECTOR]);
+        buffer[SECTOR..].copy_from_slice(&self.bytes[second..second + SECTOR]);
+    }
+
+    // Puts the bytes of a sector into the record that begins at a place.
+    fn write_sector(&mut self, at: usize, sector: &[u8])
+        requires record { at + 513 ≤ 513 * record_count }
+        requires sector { length sector.now ≡ 512 }
+        ensures bytes { self.new.bytes.items ≡ stored self.old.bytes.items at sector.now }
+        ensures tab { self.new.protected ≡ self.old.protected }
+    {
+        self.bytes[at..at + SECTOR].copy_from_slice(sector);
+    }
+
+    // Puts the two halves of a buffer into the sectors of a block.
+    fn write_block(&mut self, place: Place, buffer: &[u8])
+        requires { length buffer.now ≡ 1024 }
+        ensures after { disk_of self.new.bytes.items self.new.protected ≡ written None (disk_of self.old.bytes.items self.old.protected) place.block buffer.now }
+        ensures statuses { statuses self.new.bytes.items ≡ statuses self.old.bytes.items }
+    {
+        let (first, second) = place.starts();
+        self.write_sector(first, &buffer[..SECTOR]);
+        self.write_sector(second, &buffer[SECTOR..]);
     }
 }
 
@@ -116,22 +167,13 @@ impl BlockDevice for SectorDisk {
     }
 
     fn tab(&self) -> Tab {
-        if self.protected {
-            Tab::On { depth: 0 }
-        } else {
-            Tab::Off
-        }
+        Tab::own(self.protected)
     }
 
     fn read(&self, block: u32, buffer: &mut [u8]) -> Result<(), Fault> {
-        if !is_in_range(block, buffer.len()) {
-            return Err(Fault::OutOfRange { place: block });
-        }
-        let place = block as u16;
-        if !is_good(self.bytes.as_slice(), place) {
-            return Err(Fault::BadBlock { depth: 0, place });
-        }
-        read_block(self.bytes.as_slice(), place, buffer);
+        let place = self.find(block, buffer.len())?;
+        self.mark(place).check()?;
+        self.read_block(place, buffer);
         Ok(())
     }
 
@@ -141,46 +183,10 @@ impl BlockDevice for SectorDisk {
         ensures after { disk_of self.new.bytes.items self.new.protected ≡ written (write_fault (disk_of self.old.bytes.items self.old.protected) block (length buffer.now)) (disk_of self.old.bytes.items self.old.protected) block buffer.now }
         ensures statuses { statuses self.new.bytes.items ≡ statuses self.old.bytes.items }
     {
-        if !is_in_range(block, buffer.len()) {
-            return Err(Fault::OutOfRange { place: block });
-        }
-        if self.protected {
-            return Err(Fault::WriteProtected { depth: 0 });
-        }
-        let place = block as u16;
-        if !is_good(self.bytes.as_slice(), place) {
-            return Err(Fault::BadBlock { depth: 0, place });
-        }
-        write_block(self.bytes.as_mut_slice(), place, buffer);
+        let place = self.find(block, buffer.len())?;
+        self.tab().check()?;
+        self.mark(place).check()?;
+        self.write_block(place, buffer);
         Ok(())
     }
-}
-
-// Whether a block is on the disk and a buffer is a block long.
-fn is_in_range(block: u32, len: usize) -> bool
-    ensures { result ≡ nat_lt block block_count && (len == 1024) }
-{
-    block < BLOCKS && len == BLOCK
-}
-
-// Copies the two sectors of a block into a buffer.
-fn read_block(bytes: &[u8], block: u16, buffer: &mut [u8])
-    requires whole { length bytes.now ≡ 513 * record_count }
-    requires block { block < block_count }
-    requires buffer { length buffer.old ≡ 1024 }
-    ensures { buffer.new ≡ stored (stored buffer.old 0 (sector_bytes bytes.now (2 * block))) 512 (sector_bytes bytes.now (2 * block + 1)) }
-{
-    copy_sector(buffer, 0, bytes, start_of(2 * block));
-    copy_sector(buffer, SECTOR, bytes, start_of(2 * block + 1));
-}
-
-// Puts the two halves of a buffer into the sectors of a block.
-fn write_block(bytes: &mut [u8], block: u16, buffer: &[u8])
-    requires whole { length bytes.old ≡ 513 * record_count }
-    requires block { block < block_count }
-    requires buffer { length buffer.now ≡ 1024 }
-    ensures { bytes.new ≡ stored (stored bytes.old (start_of (2 * block)) (take 512 buffer.now)) (start_of (2 * block + 1)) (take 512 (drop 512 buffer.now)) }
-{
-    copy_sector(bytes, start_of(2 * block), buffer, 0);
-    copy_sector(bytes, start_of(2 * block + 1), buffer, SECTOR);
 }

@@ -12,7 +12,7 @@ pub const SECTORS: u16 = 8;
 pub const STEP: u16 = 5;
 
 // The record that keeps a sector of the disk: the sector stays in its track.
-fn interleaved(sector: u16) -> u16
+pub(crate) fn interleaved(sector: u16) -> u16
     requires { sector < track_count * sector_count }
     ensures { result ≡ record_of sector_count step_size sector }
 {
@@ -25,9 +25,5 @@ pub fn record_of(sector: u16) -> Option<u16>
     ensures theorem { Interleaves track_count sector_count step_size }
     ensures general { (tracks sectors step : ℕ) → 0 < sectors → SharesNoFactor step sectors → Interleaves tracks sectors step }
 {
-    if sector < TRACKS * SECTORS {
-        Some(interleaved(sector))
-    } else {
-        None
-    }
+    (sector < TRACKS * SECTORS).then(|| interleaved(sector))
 }
