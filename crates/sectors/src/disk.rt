@@ -3,7 +3,7 @@ ghost use Rattle.std.specs.Prelude.{◌≡◌, ℕ, ◌+◌, ◌*◌, ◌<◌, �
 ghost use Rattle.blocks.specs.Devices.{block_at, mark_at, outcome, range_fault, size_of, write_fault, written};
 ghost use Rattle.parts.specs.Parts.{stored};
 ghost use Rattle.refusal.specs.declared.Refusal.TheVariants.{OutOfRange};
-ghost use Rattle.sectors.specs.Disks.{block_count, disk_of, encoded_disk, is_disk as is_disk_of, is_good, record_count, start_of, statuses};
+ghost use Rattle.sectors.specs.Disks.{block_count, disk_of, encoded_disk, is_disk as is_disk_of, is_good, record_count, sector_bytes, start_of, status_at, statuses};
 ghost use Rattle.sectors.specs.Sectoring.{disk-sized, disk-wide, disk-small, disk-marked, disk-shallow};
 
 use crate::interleave::interleaved;
@@ -31,6 +31,23 @@ pub struct SectorDisk {
     ghost small: { (i : ℕ) → slice_index bytes.items i < 256 },
 }
 
+// A sector that the disk has.
+#[derive(Clone, Copy)]
+struct Sector {
+    number: u16,
+    ghost on_disk: { number < record_count },
+}
+
+impl Sector {
+    // Where its record begins.
+    fn start(self) -> usize
+        ensures value { result ≡ start_of self.number }
+        ensures within { result + 513 ≤ 513 * record_count }
+    {
+        RECORD * usize::from(interleaved(self.number))
+    }
+}
+
 // A block that the disk has.
 #[derive(Clone, Copy)]
 struct Place {
@@ -39,23 +56,13 @@ struct Place {
 }
 
 impl Place {
-    // Where the records of its two sectors begin.
-    fn starts(self) -> (usize, usize)
-        ensures first { result.0 ≡ start_of (2 * self.block) }
-        ensures second { result.1 ≡ start_of (2 * self.block + 1) }
-        ensures within { (result.0 + 513 ≤ 513 * record_count) × (result.1 + 513 ≤ 513 * record_count) }
+    fn sectors(self) -> (Sector, Sector)
+        ensures first { result.0.number ≡ 2 * self.block }
+        ensures second { result.1.number ≡ 2 * self.block + 1 }
     {
-        (start_of(2 * self.block), start_of(2 * self.block + 1))
+        let number = 2 * self.block;
+        (Sector { number }, Sector { number: number + 1 })
     }
-}
-
-// Where the record of a sector begins.
-fn start_of(sector: u16) -> usize
-    requires { sector < record_count }
-    ensures value { result ≡ start_of sector }
-    ensures within { result + 513 ≤ 513 * record_count }
-{
-    RECORD * usize::from(interleaved(sector))
 }
 
 impl SectorDisk {
@@ -96,12 +103,27 @@ impl SectorDisk {
         })
     }
 
+    // The bytes of a sector.
+    fn sector(&self, sector: Sector) -> &[u8]
+        ensures { result.now ≡ sector_bytes self.now.bytes.items sector.number }
+    {
+        let start = sector.start();
+        &self.bytes[start..start + SECTOR]
+    }
+
+    // The status of a sector, 0 if it is good.
+    fn status(&self, sector: Sector) -> u8
+        ensures { result ≡ status_at self.now.bytes.items sector.number }
+    {
+        self.bytes[sector.start() + SECTOR]
+    }
+
     // Whether the two sectors of a block are good.
     fn is_good(&self, place: Place) -> bool
         ensures { result ≡ is_good self.now.bytes.items place.block }
     {
-        let (first, second) = place.starts();
-        self.bytes[first + SECTOR] == 0 && self.bytes[second + SECTOR] == 0
+        let (first, second) = place.sectors();
+        self.status(first) == 0 && self.status(second) == 0
     }
 
     fn mark(&self, place: Place) -> Mark
@@ -122,19 +144,19 @@ impl SectorDisk {
         requires { length buffer.old ≡ 1024 }
         ensures { buffer.new ≡ block_at (disk_of self.now.bytes.items self.now.protected) place.block }
     {
-        let (first, second) = place.starts();
-        buffer[..SECTOR].copy_from_slice(&self.bytes[first..first + SECTOR]);
-        buffer[SECTOR..].copy_from_slice(&self.bytes[second..second + SECTOR]);
+        let (first, second) = place.sectors();
+        buffer[..SECTOR].copy_from_slice(self.sector(first));
+        buffer[SECTOR..].copy_from_slice(self.sector(second));
     }
 
-    // Puts the bytes of a sector into the record that begins at a place.
-    fn write_sector(&mut self, at: usize, sector: &[u8])
-        requires record { at + 513 ≤ 513 * record_count }
-        requires sector { length sector.now ≡ 512 }
-        ensures bytes { self.new.bytes.items ≡ stored self.old.bytes.items at sector.now }
+    // Puts the bytes of a sector into its record.
+    fn write_sector(&mut self, sector: Sector, bytes: &[u8])
+        requires { length bytes.now ≡ 512 }
+        ensures bytes { self.new.bytes.items ≡ stored self.old.bytes.items (start_of sector.number) bytes.now }
         ensures tab { self.new.protected ≡ self.old.protected }
     {
-        self.bytes[at..at + SECTOR].copy_from_slice(sector);
+        let start = sector.start();
+        self.bytes[start..start + SECTOR].copy_from_slice(bytes);
     }
 
     // Puts the two halves of a buffer into the sectors of a block.
@@ -143,7 +165,7 @@ impl SectorDisk {
         ensures after { disk_of self.new.bytes.items self.new.protected ≡ written None (disk_of self.old.bytes.items self.old.protected) place.block buffer.now }
         ensures statuses { statuses self.new.bytes.items ≡ statuses self.old.bytes.items }
     {
-        let (first, second) = place.starts();
+        let (first, second) = place.sectors();
         self.write_sector(first, &buffer[..SECTOR]);
         self.write_sector(second, &buffer[SECTOR..]);
     }

@@ -17,8 +17,8 @@ returns c =
     let rest : length ys - 512 ≡ 512 = omega arith in
     let both : vec_items c.write_sector-2.new.self.bytes ≡ stored (stored xs (start_of (2 * b)) (take 512 ys)) (start_of (2 * b + 1)) (take 512 (drop 512 ys)) =
     c.write_sector-2.ensures.bytes
-    ∙ ap₂ (λ zs n. stored zs c.starts-first.result.1 (take n (drop 512 ys))) c.write_sector.ensures.bytes rest
-    ∙ ap₂ (λ f s. stored (stored xs f (take 512 ys)) s (take 512 (drop 512 ys))) c.starts-first.ensures.first c.starts-first.ensures.second in
+    ∙ ap₂ (λ zs n. stored zs (start_of c.sectors.result.1.number) (take n (drop 512 ys))) c.write_sector.ensures.bytes rest
+    ∙ ap₂ (λ f s. stored (stored xs (start_of f) (take 512 ys)) (start_of s) (take 512 (drop 512 ys))) c.sectors.ensures.first c.sectors.ensures.second in
     record {
       after = ap₂ disk_of both (c.write_sector-2.ensures.tab ∙ c.write_sector.ensures.tab) ∙ disk-after xs x.protected x.whole b c.args.place.on_disk ys c.requires;
       statuses = ap statuses both ∙ written-statuses xs x.protected x.whole b c.args.place.on_disk ys c.requires;
