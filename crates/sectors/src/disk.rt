@@ -105,7 +105,8 @@ impl SectorDisk {
 
     // The bytes of a sector.
     fn sector(&self, sector: Sector) -> &[u8]
-        ensures { result.now ≡ sector_bytes self.now.bytes.items sector.number }
+        ensures bytes { result.now ≡ sector_bytes self.now.bytes.items sector.number }
+        ensures length { length result.now ≡ 512 }
     {
         let start = sector.start();
         &self.bytes[start..start + SECTOR]

@@ -9,16 +9,11 @@ pub slice_bounds-copy_from_slice-end-2 : goal.slice_bounds-copy_from_slice-end-2
 slice_bounds-copy_from_slice-end-2 c = omega (arith, length-take 512 c.args.buffer.now)
 
 pub copy_from_slice-requires : goal.copy_from_slice-requires
-copy_from_slice-requires c =
-    let x = c.args.self.now in
-    let q = c.sectors.result.0 in
-    omega (arith, ap length c.sector.ensures, length-sector (vec_items x.bytes) q.number (disk-length (vec_items x.bytes) x.whole) q.on_disk, length-take 512 c.args.buffer.now)
+copy_from_slice-requires c = omega (arith, c.sector.ensures.length, length-take 512 c.args.buffer.now)
 
 pub copy_from_slice-requires-2 : goal.copy_from_slice-requires-2
 copy_from_slice-requires-2 c =
-    let x = c.args.self.now in
-    let q = c.sectors.result.1 in
-    omega (arith, ap length c.sector-2.ensures, length-sector (vec_items x.bytes) q.number (disk-length (vec_items x.bytes) x.whole) q.on_disk, c.copy_from_slice.ensures.len, length-take 512 c.args.buffer.now, length-take {A = ℕ}, length-drop {A = ℕ}, length-append {A = ℕ})
+    omega (arith, c.sector-2.ensures.length, c.copy_from_slice.ensures.len, length-take 512 c.args.buffer.now, length-take {A = ℕ}, length-drop {A = ℕ}, length-append {A = ℕ})
 
 pub returns : goal.returns
 returns c =
@@ -29,7 +24,7 @@ returns c =
     let two = sector_bytes xs (2 * b + 1) in
     let rest = drop 512 c.args.buffer.now in
     let wide = length-sector xs (2 * b) (disk-length xs x.whole) (omega arith) in
-    let first : c.copy_from_slice.new.self ≡ one = c.copy_from_slice.ensures.after ∙ c.sector.ensures ∙ ap (sector_bytes xs) c.sectors.ensures.first in
-    let second : c.copy_from_slice-2.new.self ≡ two = c.copy_from_slice-2.ensures.after ∙ c.sector-2.ensures ∙ ap (sector_bytes xs) c.sectors.ensures.second in
+    let first : c.copy_from_slice.new.self ≡ one = c.copy_from_slice.ensures.after ∙ c.sector.ensures.bytes ∙ ap (sector_bytes xs) c.sectors.ensures.first in
+    let second : c.copy_from_slice-2.new.self ≡ two = c.copy_from_slice-2.ensures.after ∙ c.sector-2.ensures.bytes ∙ ap (sector_bytes xs) c.sectors.ensures.second in
     ap₂ (λ y z. put_mid 512 (length (y ++ rest) - 512) (y ++ rest) z) first second
     ∙ halves one rest two _ wide (omega (arith, length-append one rest)) ∙ sym (disk-block xs x.protected b c.args.place.on_disk)
