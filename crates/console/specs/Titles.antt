@@ -2,7 +2,8 @@
 --   name_of      the bytes of the name that a field gives: `'text'`, or `hex:` and the digits of each byte
 --   name_bytes   the bytes that a name stands for
 --   hex_bytes    the bytes that hexadecimal digits stand for, two digits a byte
-use Rattle.std.specs.Prelude.{ℕ, ◌+◌, ◌-◌, ◌*◌, ◌%◌, Bool, true, cond, not, ◌&&◌, ◌||◌, List, [], ◌∷◌, length, take, drop, Some, None, codes, Option, ◌==◌, nat_le, slice_index}
+use Rattle.std.specs.Prelude.{ℕ, ◌+◌, ◌-◌, ◌*◌, ◌%◌, Bool, cond, not, ◌&&◌, ◌||◌, List, [], ◌∷◌, length, take, drop, Some, None, codes, Option, ◌==◌, nat_le, slice_index}
+use Rattle.std.specs.List.{list_all}
 use Rattle.std.specs.Option.{option_map}
 use Rattle.std.specs.Str.{bytes_eq}
 use Rattle.console.specs.declared.titles.Name.{Name}
@@ -12,13 +13,8 @@ use Rattle.console.specs.declared.titles.Name.TheVariants.{Quoted, Hex}
 abbrev pub is_plain : ℕ → Bool
 is_plain b = nat_le 32 b && (nat_le b 126 && not (b == 39))
 
--- Each byte passes a test.
-abbrev pub each : (ℕ → Bool) → List ℕ → Bool
-each test [] = true
-each test (b ∷ rest) = test b && each test rest
-
 abbrev pub all_plain : List ℕ → Bool
-all_plain text = each is_plain text
+all_plain text = list_all is_plain text
 
 -- The first byte is a quote and the last one another, which is not the same byte.
 abbrev pub is_quoted : List ℕ → Bool
@@ -36,7 +32,7 @@ abbrev pub is_hex_digit : ℕ → Bool
 is_hex_digit b = (nat_le 48 b && nat_le b 57) || ((nat_le 65 b && nat_le b 70) || (nat_le 97 b && nat_le b 102))
 
 abbrev pub all_digits : List ℕ → Bool
-all_digits digits = each is_hex_digit digits
+all_digits digits = list_all is_hex_digit digits
 
 abbrev pub even_digits : List ℕ → Bool
 even_digits digits = length digits % 2 == 0 && all_digits digits

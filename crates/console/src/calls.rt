@@ -1,5 +1,5 @@
 // Lines as calls: each with the buffers that it is handed.
-ghost use Rattle.std.specs.Prelude.{◌≡◌, replicate, IfOk};
+ghost use Rattle.std.specs.Prelude.{◌≡◌, length, replicate, IfOk};
 ghost use Rattle.console.specs.Calls.{ExpectsBy, meaning, read_line, requested};
 ghost use Rattle.console.specs.Fields.{at, fields as fields_of};
 ghost use Rattle.console.specs.Forms.{stands_for};
@@ -13,7 +13,8 @@ use model::NameKind;
 use requests::Request;
 use std::alloc::{AllocError, Global};
 
-// What a line says.
+// What a line says. A line that says nothing is no error here: the console tells what was expected and reads on, and `?`
+// passes on nothing but a lack of memory.
 #[derive(Drop)]
 pub enum Line {
     // the work blocks of the calls that follow have this length
@@ -25,7 +26,8 @@ pub enum Line {
 
 // So many zeros.
 fn zeros(heap: Global, len: u32) -> Result<Vec<u8>, AllocError>
-    ensures { IfOk result (λ v. v.items ≡ replicate len 0) }
+    ensures items { IfOk result (λ v. v.items ≡ replicate len 0) }
+    ensures len { IfOk result (λ v. length v.items ≡ len) }
 {
     vec![in heap; 0; len as usize]
 }

@@ -1,16 +1,17 @@
 // What a line asks for: its first word says which form its other fields have.
-ghost use Rattle.std.specs.Prelude.{◌≡◌};
+ghost use Rattle.std.specs.Prelude.{◌≡◌, Some};
 ghost use Rattle.console.specs.Fields.{fields as fields_of, later};
-ghost use Rattle.console.specs.Forms.{asked as asked_by, date_of, expected_text, fields_in, find_of, form_of, init_of, in_form, kind_of, read_as, show_of, stands_for, understood, work_of};
+ghost use Rattle.console.specs.Forms.{asked as asked_by, expected_text, form_of, in_form, kind_of, stands_for, understood};
+ghost use Rattle.console.specs.declared.forms.Expected.TheVariants.{Date as DateForm, Init as InitForm, TakeUp as TakeUpForm, Find as FindForm, Show as ShowForm, Work as WorkForm};
 ghost use Rattle.std.specs.Option.{option_map};
-ghost use Rattle.std.specs.Str.{bytes_eq};
 
-use crate::fields::{fields_of, first_field};
+use crate::fields::{first_field, last_field, next_field};
 use crate::numbers::number_of;
 use crate::titles::{Name, name_of};
 use model::NameKind;
+use std::fmt;
 
-// The forms of lines, by what is expected of a line that has none of them.
+// What is expected of a line that says nothing: the form that its first word asks for.
 #[derive(Clone, Copy, PartialEq, Eq, Debug)]
 pub enum Expected {
     Date,
@@ -19,7 +20,7 @@ pub enum Expected {
     Find,
     Show,
     Work,
-    // no form has this first word
+    // one of the first words, since no form has the one that stands there
     Command,
 }
 
@@ -37,6 +38,14 @@ impl Expected {
             Expected::Work => "work LEN",
             Expected::Command => "date, init, takeup, find, show or work",
         }
+    }
+}
+
+impl fmt::Display for Expected {
+    ghost output = { λ form. Some (expected_text form) };
+
+    fn fmt<W: fmt::Write>(&self, f: &mut fmt::Formatter<W>) -> fmt::Result {
+        f.write_str(self.words())
     }
 }
 
@@ -68,61 +77,50 @@ pub(crate) enum Asked<'a> {
     },
 }
 
-fn same(one: &[u8], other: &[u8]) -> bool
-    ensures { result ≡ bytes_eq one.now other.now }
-{
-    one == other
-}
-
 // The form that a line has to have, by its first word.
 fn form_of(word: &[u8]) -> Expected
     ensures { result ≡ form_of word.now }
 {
-    if same(word, b"date") {
-        return Expected::Date;
+    match word {
+        b"date" => Expected::Date,
+        b"init" => Expected::Init,
+        b"takeup" => Expected::TakeUp,
+        b"find" => Expected::Find,
+        b"show" => Expected::Show,
+        b"work" => Expected::Work,
+        _ => Expected::Command,
     }
-    if same(word, b"init") {
-        return Expected::Init;
-    }
-    if same(word, b"takeup") {
-        return Expected::TakeUp;
-    }
-    if same(word, b"find") {
-        return Expected::Find;
-    }
-    if same(word, b"show") {
-        return Expected::Show;
-    }
-    if same(word, b"work") {
-        return Expected::Work;
-    }
-    Expected::Command
 }
 
+// By which part of its name a file is to be found.
 fn kind_of(word: &[u8]) -> Option<NameKind>
     ensures { result ≡ kind_of word.now }
 {
-    if same(word, b"whole") {
-        return Some(NameKind::Whole);
+    match word {
+        b"whole" => Some(NameKind::Whole),
+        b"stem" => Some(NameKind::Stem),
+        _ => None,
     }
-    if same(word, b"stem") {
-        return Some(NameKind::Stem);
-    }
-    None
 }
 
-fn date_of<'a>(year: &'a [u8], month: &'a [u8], day: &'a [u8]) -> Option<Asked<'a>>
-    ensures { option_map stands_for result ≡ date_of year.now month.now day.now }
+fn date_of(left: &[u8]) -> Option<Asked<'_>>
+    ensures { option_map stands_for result ≡ in_form DateForm (later left.now) }
 {
+    let (year, left) = next_field(left)?;
+    let (month, left) = next_field(left)?;
+    let day = last_field(left)?;
     let year = number_of(year)?;
     let month = number_of(month)?;
     let day = number_of(day)?;
     Some(Asked::Date { year, month, day })
 }
 
-fn init_of<'a>(name: &'a [u8], directory: &'a [u8], size: &'a [u8]) -> Option<Asked<'a>>
-    ensures { option_map stands_for result ≡ init_of name.now directory.now size.now }
+fn init_of(left: &[u8]) -> Option<Asked<'_>>
+    ensures { option_map stands_for result ≡ in_form InitForm (later left.now) }
 {
+    let (name, left) = next_field(left)?;
+    let (directory, left) = next_field(left)?;
+    let size = last_field(left)?;
     let name = name_of(name)?;
     let directory = number_of(directory)?;
     let size = number_of(size)?;
@@ -133,75 +131,59 @@ fn init_of<'a>(name: &'a [u8], directory: &'a [u8], size: &'a [u8]) -> Option<As
     })
 }
 
-fn find_of<'a>(kind: &'a [u8], name: &'a [u8], len: &'a [u8]) -> Option<Asked<'a>>
-    ensures { option_map stands_for result ≡ find_of kind.now name.now len.now }
+fn take_up_of(left: &[u8]) -> Option<Asked<'_>>
+    ensures { option_map stands_for result ≡ in_form TakeUpForm (later left.now) }
 {
+    left.is_empty().then_some(Asked::TakeUp)
+}
+
+fn find_of(left: &[u8]) -> Option<Asked<'_>>
+    ensures { option_map stands_for result ≡ in_form FindForm (later left.now) }
+{
+    let (kind, left) = next_field(left)?;
+    let (name, left) = next_field(left)?;
+    let len = last_field(left)?;
     let kind = kind_of(kind)?;
     let name = name_of(name)?;
     let len = number_of(len)?;
     Some(Asked::Find { kind, name, len })
 }
 
-fn show_of<'a>(entry: &'a [u8], len: &'a [u8]) -> Option<Asked<'a>>
-    ensures { option_map stands_for result ≡ show_of entry.now len.now }
+fn show_of(left: &[u8]) -> Option<Asked<'_>>
+    ensures { option_map stands_for result ≡ in_form ShowForm (later left.now) }
 {
+    let (entry, left) = next_field(left)?;
+    let len = last_field(left)?;
     let entry = number_of(entry)?;
     let len = number_of(len)?;
     Some(Asked::Show { entry, len })
 }
 
-fn work_of<'a>(len: &'a [u8]) -> Option<Asked<'a>>
-    ensures { option_map stands_for result ≡ work_of len.now }
+fn work_of(left: &[u8]) -> Option<Asked<'_>>
+    ensures { option_map stands_for result ≡ in_form WorkForm (later left.now) }
 {
+    let len = last_field(left)?;
     let len = number_of(len)?;
     Some(Asked::Work { len })
 }
 
-// How many fields a form has behind its first word.
-fn fields_in(form: Expected) -> usize
-    ensures { result ≡ fields_in form }
+// What the fields behind the first word ask for, if they have the form.
+fn in_form(form: Expected, left: &[u8]) -> Option<Asked<'_>>
+    ensures { option_map stands_for result ≡ in_form form (later left.now) }
 {
     match form {
-        Expected::Date | Expected::Init | Expected::Find => 3,
-        Expected::Show => 2,
-        Expected::Work => 1,
-        Expected::TakeUp | Expected::Command => 0,
-    }
-}
-
-// What so many fields ask for.
-fn read_as<'a>(
-    form: Expected,
-    first: &'a [u8],
-    second: &'a [u8],
-    third: &'a [u8],
-) -> Option<Asked<'a>>
-    ensures { option_map stands_for result ≡ read_as form first.now second.now third.now }
-{
-    match form {
-        Expected::Date => date_of(first, second, third),
-        Expected::Init => init_of(first, second, third),
-        Expected::TakeUp => Some(Asked::TakeUp),
-        Expected::Find => find_of(first, second, third),
-        Expected::Show => show_of(first, second),
-        Expected::Work => work_of(first),
+        Expected::Date => date_of(left),
+        Expected::Init => init_of(left),
+        Expected::TakeUp => take_up_of(left),
+        Expected::Find => find_of(left),
+        Expected::Show => show_of(left),
+        Expected::Work => work_of(left),
         Expected::Command => None,
     }
 }
 
-// What the fields behind the first word ask for, if they have the form.
-fn in_form<'a>(form: Expected, left: &'a [u8]) -> Option<Asked<'a>>
-    ensures { option_map stands_for result ≡ in_form form (later left.now) }
-{
-    let fields = fields_of(left);
-    if fields.count != fields_in(form) {
-        return None;
-    }
-    read_as(form, fields.first, fields.second, fields.third)
-}
-
 // What a line asks for, or the form that it should have.
-pub(crate) fn read_fields<'a>(line: &'a [u8]) -> Result<Asked<'a>, Expected>
+pub(crate) fn read_fields(line: &[u8]) -> Result<Asked<'_>, Expected>
     ensures { understood result ≡ asked_by (fields_of line.now) }
 {
     let (word, left) = first_field(line);

@@ -6,17 +6,12 @@ ghost use Rattle.console.specs.Numbers.{number_of, with_digit};
 fn with_digit(number: u32, digit: u8) -> Option<u32>
     ensures { result ≡ with_digit number digit }
 {
-    if digit < b'0' || digit > b'9' {
-        return None;
-    }
-    let longer = u64::from(number) * 10 + u64::from(digit - b'0');
-    if longer >= 0x1_0000_0000 {
-        return None;
-    }
-    Some(longer as u32)
+    let digit = char::from(digit).to_digit(10)?;
+    number.checked_mul(10)?.checked_add(digit)
 }
 
-// The number that a field says: one or more digits, of which the first may be zeros, and below 2^32.
+// The number that a field says: one or more digits, of which the first may be zeros, and below 2^32. Not `parse`, which
+// takes a `+` in front; and a loop, since of `try_fold` no proof was found that says where it gives up.
 pub(crate) fn number_of(field: &[u8]) -> Option<u32>
     ensures { result ≡ number_of field.now }
 {

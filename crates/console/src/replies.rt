@@ -1,27 +1,11 @@
 // The line that is printed of a reply.
-ghost use Rattle.std.specs.Prelude.{◌≡◌, ◌<◌, ◌++◌, IfOk, string_bytes, OnOk};
-ghost use Rattle.console.specs.Replies.{done_text, hex_digit, hex_pair, hex_text, refused_text, reply_text};
+ghost use Rattle.std.specs.Prelude.{◌≡◌, ◌++◌, IfOk, string_bytes};
+ghost use Rattle.console.specs.Replies.{done_text, hex_text, refused_text, reply_text};
 ghost use Rattle.requests.specs.Values.{told};
 
 use refusal::Refusal;
 use requests::Reply;
 use std::alloc::{AllocError, Global};
-
-// A hexadecimal digit, in capitals.
-fn hex_digit(n: u8) -> char
-    requires { n < 16 }
-    ensures { result ≡ hex_digit n }
-{
-    char::from(if n < 10 { b'0' + n } else { b'A' - 10 + n })
-}
-
-// Adds the two digits of a byte.
-fn push_hex(out: &mut String, byte: u8) -> Result<(), AllocError>
-    ensures { OnOk result (string_bytes out.new ≡ string_bytes out.old ++ hex_pair byte) }
-{
-    out.push(hex_digit(byte / 16))?;
-    out.push(hex_digit(byte % 16))
-}
 
 // Bytes in hexadecimal, two digits a byte.
 fn hex_text(heap: Global, bytes: &[u8]) -> Result<String, AllocError>
@@ -29,7 +13,7 @@ fn hex_text(heap: Global, bytes: &[u8]) -> Result<String, AllocError>
 {
     let mut out = String::new(heap);
     for byte in bytes {
-        push_hex(&mut out, *byte)?;
+        write!(out, "{byte:02X}")?;
     }
     Ok(out)
 }
@@ -38,24 +22,26 @@ fn hex_text(heap: Global, bytes: &[u8]) -> Result<String, AllocError>
 fn done_line(heap: Global, number: Option<u32>, buffer: &[u8]) -> Result<String, AllocError>
     ensures { IfOk result (λ t. string_bytes t ≡ done_text number buffer.now) }
 {
-    let Some(number) = number else {
-        return String::from_str(heap, "ok");
-    };
-    if buffer.is_empty() {
-        return format!(in heap; "ok {number}");
+    match (number, buffer) {
+        (None, _) => String::from_str(heap, "ok"),
+        (Some(number), []) => format!(in heap; "ok {number}"),
+        (Some(number), _) => {
+            let hex = hex_text(heap, buffer)?;
+            format!(in heap; "ok {number} {hex}")
+        }
     }
-    let hex = hex_text(heap, buffer)?;
-    format!(in heap; "ok {number} {hex}")
 }
 
 // The line of a call that was refused: the refusal's three numbers.
 fn refused_line(heap: Global, refusal: Refusal) -> Result<String, AllocError>
     ensures { IfOk result (λ t. string_bytes t ≡ refused_text refusal) }
 {
-    let number = refusal.number();
-    let layer = refusal.layer();
-    let place = refusal.place();
-    format!(in heap; "refused {number} {layer} {place}")
+    format!(in heap;
+        "refused {} {} {}",
+        refusal.number(),
+        refusal.layer(),
+        refusal.place()
+    )
 }
 
 // The line of a reply.
@@ -63,7 +49,7 @@ pub fn reply_line(heap: Global, reply: &Reply) -> Result<String, AllocError>
     ensures { IfOk result (λ t. string_bytes t ≡ reply_text (told reply.now)) }
 {
     match reply.answer {
-        Ok(number) => done_line(heap, number, reply.buffer.as_slice()),
+        Ok(number) => done_line(heap, number, &reply.buffer),
         Err(refusal) => refused_line(heap, refusal),
     }
 }

@@ -12,59 +12,33 @@ pub(crate) enum Name<'a> {
     Hex(&'a [u8]),
 }
 
-const QUOTE: u8 = 39;
-
 // What may stand between quotes: a printable byte that is no quote.
 fn is_plain(byte: u8) -> bool
     ensures { result ≡ is_plain byte }
 {
-    byte >= 0x20 && byte <= 0x7e && byte != QUOTE
+    matches!(byte, b' '..=b'~') && byte != b'\''
 }
 
 fn all_plain(text: &[u8]) -> bool
     ensures { result ≡ all_plain text.now }
 {
-    for byte in text {
-        if !is_plain(*byte) {
-            return false;
-        }
-    }
-    true
+    text.iter().all(|byte| is_plain(*byte))
 }
 
-// Whether a field begins with a quote and ends with another.
-fn is_quoted(field: &[u8]) -> bool
-    ensures { result ≡ is_quoted field.now }
-{
-    field.len() >= 2 && field[0] == QUOTE && field[field.len() - 1] == QUOTE
-}
-
-// The text between the quotes of a field.
+// The text between the quotes of a field that begins with one and ends with another.
 fn quoted_text(field: &[u8]) -> Option<&[u8]>
     ensures { option_map (λ x. x.now) result ≡ quoted_text field.now }
 {
-    if !is_quoted(field) {
+    let [b'\'', text @ .., b'\''] = field else {
         return None;
-    }
-    let text = &field[1..field.len() - 1];
-    if all_plain(text) { Some(text) } else { None }
-}
-
-fn is_hex_digit(byte: u8) -> bool
-    ensures { result ≡ is_hex_digit byte }
-{
-    byte >= b'0' && byte <= b'9' || byte >= b'A' && byte <= b'F' || byte >= b'a' && byte <= b'f'
+    };
+    all_plain(text).then_some(text)
 }
 
 fn all_digits(digits: &[u8]) -> bool
     ensures { result ≡ all_digits digits.now }
 {
-    for byte in digits {
-        if !is_hex_digit(*byte) {
-            return false;
-        }
-    }
-    true
+    digits.iter().all(u8::is_ascii_hexdigit)
 }
 
 // The digits behind `hex:`, of which there is an even number.
@@ -72,11 +46,7 @@ fn hex_digits(field: &[u8]) -> Option<&[u8]>
     ensures { option_map (λ x. x.now) result ≡ hex_digits field.now }
 {
     let digits = field.strip_prefix(b"hex:")?;
-    if digits.len() % 2 == 0 && all_digits(digits) {
-        Some(digits)
-    } else {
-        None
-    }
+    (digits.len() % 2 == 0 && all_digits(digits)).then_some(digits)
 }
 
 // The name that a field gives.
@@ -86,21 +56,15 @@ pub(crate) fn name_of<'a>(field: &'a [u8]) -> Option<Name<'a>>
     if let Some(text) = quoted_text(field) {
         return Some(Name::Quoted(text));
     }
-    let digits = hex_digits(field)?;
-    Some(Name::Hex(digits))
+    hex_digits(field).map(Name::Hex)
 }
 
-// What a digit stands for.
+// What a digit stands for, and 0 for what is no digit.
 fn hex_value(digit: u8) -> u8
     ensures within { result ≤ 15 }
     ensures value { result ≡ hex_value digit }
 {
-    match digit {
-        b'0'..=b'9' => digit - b'0',
-        b'A'..=b'F' => digit - b'A' + 10,
-        b'a'..=b'f' => digit - b'a' + 10,
-        _ => 0,
-    }
+    char::from(digit).to_digit(16).unwrap_or(0) as u8
 }
 
 // What two digits stand for.
@@ -113,13 +77,11 @@ fn pair_value(high: u8, low: u8) -> u8
 fn hex_bytes(heap: Global, digits: &[u8]) -> Result<Vec<u8>, AllocError>
     ensures { IfOk result (λ v. v.items ≡ hex_bytes digits.now) }
 {
-    let mut bytes = Vec::new(heap);
-    let mut left = digits;
-    while let [high, low, rest @ ..] = left {
-        bytes.push(pair_value(*high, *low))?;
-        left = rest;
-    }
-    Ok(bytes)
+    let (pairs, _) = digits.as_chunks::<2>();
+    pairs
+        .iter()
+        .map(|[high, low]| pair_value(*high, *low))
+        .collect(heap)
 }
 
 // The bytes of a name.

@@ -5,12 +5,7 @@ use requests::Request;
 use std::test::Fail;
 
 fn all_zeros(bytes: &[u8], len: usize) -> bool {
-    for byte in bytes {
-        if *byte != 0 {
-            return false;
-        }
-    }
-    bytes.len() == len
+    bytes.len() == len && bytes.iter().all(|byte| *byte == 0)
 }
 
 #[test]

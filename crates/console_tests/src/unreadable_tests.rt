@@ -136,7 +136,7 @@ fn other_forms(rt: HostRuntime) -> Result<(), Fail> {
 }
 
 #[test]
-fn words(rt: HostRuntime) {
+fn words(rt: HostRuntime) -> Result<(), Fail> {
     for (expected, words) in [
         (Expected::Date, "date Y M D"),
         (Expected::Init, "init NAME D N"),
@@ -147,5 +147,7 @@ fn words(rt: HostRuntime) {
         (Expected::Command, "date, init, takeup, find, show or work"),
     ] {
         assert!(rt; expected.words() == words);
+        assert!(rt; expected.to_string(rt.alloc())?.as_str() == words);
     }
+    Ok(())
 }

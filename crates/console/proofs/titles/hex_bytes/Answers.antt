@@ -1,11 +1,10 @@
-use Rattle.std.proofs.Common.{vec_items, refl, arith, ltb-false, ltb-true}
-use Rattle.console.proofs.Naming.{pair-more, pairs_end}
+use Rattle.std.proofs.Common.{◌≡◌, map, ap, ◌∙◌, rules, tests}
+use Rattle.std.proofs.lemmas.Iterator.{YieldsList-from_map, YieldsList-from_slice, items_from_collect}
+use Rattle.console.specs.Titles.{hex_bytes}
+use Rattle.console.proofs.Naming.{of_pair, of_pairs}
 use Rattle.console.proofs.titles.hex_bytes.Goals as goal
 
-pub loop-left-preserved : goal.loop-left-preserved
-loop-left-preserved c =
-    pair-more (vec_items c.loop-left.bytes) _ c.loop-left.left.now _ c.pair_value.result _ refl (omega (arith, ltb-false)) c.pair_value.ensures
-    c.in_ok-push.ensures.items c.loop-left.invariant
-
 pub returns : goal.returns
-returns c = pairs_end (vec_items c.loop-left.bytes) c.loop-left.left.now _ (omega (arith, ltb-true)) c.loop-left.invariant
+returns c =
+    let e : map of_pair c.as_chunks.result.0.now ≡ hex_bytes c.args.digits.now = ap (map of_pair) c.as_chunks.ensures.front ∙ of_pairs c.args.digits.now in
+    rw e at (items_from_collect _ c.collect.ensures.ran (YieldsList-from_map _ of_pair (YieldsList-from_slice c.as_chunks.result.0.now (cc)) c.map.ensures.closure (λ x r q k. search (rules, tests))))

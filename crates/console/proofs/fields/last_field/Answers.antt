@@ -1,0 +1,7 @@
+use Rattle.std.proofs.Common.{arith}
+use Rattle.std.proofs.lemmas.Bool.Decides.{nat_tests}
+use Rattle.console.proofs.Splitting.{none_later}
+use Rattle.console.proofs.fields.last_field.Goals as goal
+
+pub returns : goal.returns
+returns c = let none = none_later c.in_ok-field.rest.now in grind (arith, nat_tests, none, c.then_some.ensures, c.in_ok-field.ensures, c.is_empty.ensures)
