@@ -20,7 +20,8 @@ pub enum Expected {
     Find,
     Show,
     Work,
-    // one of the first words, since no form has the one that stands there
+    // one of the first words, where no form has the one that stands there. A variant and not a `None`: of every line
+    // that says nothing it is told what was expected.
     Command,
 }
 

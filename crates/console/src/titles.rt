@@ -53,10 +53,9 @@ fn hex_digits(field: &[u8]) -> Option<&[u8]>
 pub(crate) fn name_of<'a>(field: &'a [u8]) -> Option<Name<'a>>
     ensures { option_map name_bytes result ≡ name_of field.now }
 {
-    if let Some(text) = quoted_text(field) {
-        return Some(Name::Quoted(text));
-    }
-    hex_digits(field).map(Name::Hex)
+    quoted_text(field)
+        .map(Name::Quoted)
+        .or_else(|| hex_digits(field).map(Name::Hex))
 }
 
 // What a digit stands for, and 0 for what is no digit.

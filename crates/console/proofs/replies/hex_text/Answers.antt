@@ -4,5 +4,5 @@ use Rattle.console.proofs.replies.hex_text.Goals as goal
 
 pub loop-byte-preserved : goal.loop-byte-preserved
 loop-byte-preserved c =
-    let fits = c.type_inv.bytes c.loop-byte.byte-index in let h = c.in_ok-write.ensures.bytes in let r = c.in_radix.ensures in let l = c.laid_out.ensures in
+    let fits = c.type_inv.bytes c.loop-byte.byte-index in
     hex-more c.args.bytes.now _ _ c.loop-byte.byte-index (omega arith) (omega (arith, fits)) c.loop-byte.invariant (search rules)
