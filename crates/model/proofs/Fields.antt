@@ -37,12 +37,14 @@ front xs ys m long = take_at xs ys m long
 behind : (field rest : List ℕ) (i : ℕ) → length field ≡ 12 → 12 ≤ i → get_or (field ++ rest) i 0 ≡ get_or rest (i - 12) 0
 behind field rest i long h = get_or-append_right field rest 12 i 0 long h
 
+-- the volume's entry
+pub volume-long : (name : List ℕ) (directory blocks : ℕ) (date : Option Stamp) → is_volume name ≡ true → length (volume_entry name directory blocks date) ≡ 26
+volume-long name directory blocks date keeps =
+    length-append (name_field name) ((128 + directory) ∷ (check_bytes ++ (long_bytes blocks ++ (0 ∷ 0 ∷ dated date)))) ∙ omega (arith, field-long name keeps, dated-long date)
+
 module _ (name : List ℕ) (directory blocks : ℕ) (date : Option Stamp) (keeps : is_volume name ≡ true) (few : directory ≤ 127) (small : blocks ≤ 65535) where
   abbrev rest : List ℕ
   rest = (128 + directory) ∷ (check_bytes ++ (long_bytes blocks ++ (0 ∷ 0 ∷ dated date)))
-
-  pub volume-long : length (volume_entry name directory blocks date) ≡ 26
-  volume-long = length-append (name_field name) rest ∙ omega (arith, field-long name keeps, dated-long date)
 
   pub volume-check : check_of (volume_entry name directory blocks date) ≡ check_bytes
   volume-check = ap (take 4) (past (name_field name) rest 12 13 1 (field-long name keeps) (omega arith))

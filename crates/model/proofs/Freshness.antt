@@ -70,23 +70,23 @@ module _ (d : Device) (name : List ℕ) (directory blocks : ℕ) (date : Option 
       (omega (arith, zeroed-long (directory - 1) d.blocks 2))
 
   at-volume : entry_at d' 0 ≡ volume
-  at-volume = ap (λ b. entry_in b 0) first-is ∙ front volume _ 26 (volume-long name directory blocks date keeps few (omega arith))
+  at-volume = ap (λ b. entry_in b 0) first-is ∙ front volume _ 26 (volume-long name directory blocks date keeps)
 
   at-boot : entry_at d' 1 ≡ boot
   at-boot =
-      ap (λ b. entry_in b 1) first-is ∙ ap (take 26) (past volume _ 26 26 0 (volume-long name directory blocks date keeps few (omega arith)) refl)
+      ap (λ b. entry_in b 1) first-is ∙ ap (take 26) (past volume _ 26 26 0 (volume-long name directory blocks date keeps) refl)
       ∙ front boot _ 26 (boot-long date)
 
   at_table : entry_at d' 2 ≡ table
   at_table =
       ap (λ b. entry_in b 2) first-is
-      ∙ ap (take 26) (past volume _ 26 52 26 (volume-long name directory blocks date keeps few (omega arith)) refl ∙ past boot _ 26 26 0 (boot-long date) refl)
+      ∙ ap (take 26) (past volume _ 26 52 26 (volume-long name directory blocks date keeps) refl ∙ past boot _ 26 26 0 (boot-long date) refl)
       ∙ front table _ 26 (directory-long directory date)
 
   at_left : entry_at d' 3 ≡ left
   at_left =
       ap (λ b. entry_in b 3) first-is
-      ∙ ap (take 26) (past volume _ 26 78 52 (volume-long name directory blocks date keeps few (omega arith)) refl ∙ past boot _ 26 52 26 (boot-long date) refl
+      ∙ ap (take 26) (past volume _ 26 78 52 (volume-long name directory blocks date keeps) refl ∙ past boot _ 26 52 26 (boot-long date) refl
       ∙ past table _ 26 26 0 (directory-long directory date) refl)
       ∙ front left _ 26 (left-long directory blocks date)
 

@@ -41,10 +41,9 @@ pub bad-none : (d : Device) (b n : ℕ) (whole : Option Fault) → n ≡ 0 → f
 bad-none d b n whole e is = ap (λ o. after (option_map refusal_of o) (Ok tt)) (sym (ap (first_bad d.marks b) e) ∙ is)
 
 -- a block of the directory can be written
-pub can_write : (d : Device) (directory b len : ℕ) → d.tab ≡ Off → directory < size_of d → first_bad d.marks 1 directory ≡ None → 1 ≤ b → b ≤ directory → len ≡ 1024 → write_fault d b len ≡ None
-can_write d directory b len off within sound low high full =
-    ap (write_fault d b) full
-    ∙ ap (λ t. cond t (tab_fault d.tab (mark_fault (mark_at d b))) (Some (OutOfRange b))) (and_from (ltb b (size_of d)) (eqb 1024 1024) (lt-ltb b (size_of d) (omega arith)) refl)
+pub can_write : (d : Device) (directory b : ℕ) → d.tab ≡ Off → directory < size_of d → first_bad d.marks 1 directory ≡ None → 1 ≤ b → b ≤ directory → write_fault d b 1024 ≡ None
+can_write d directory b off within sound low high =
+    ap (λ t. cond t (tab_fault d.tab (mark_fault (mark_at d b))) (Some (OutOfRange b))) (and_from (ltb b (size_of d)) (eqb 1024 1024) (lt-ltb b (size_of d) (omega arith)) refl)
     ∙ ap (λ t. tab_fault t (mark_fault (mark_at d b))) off
     ∙ sym (mark-read d b 1024 (omega arith) refl) ∙ sound-read d directory 1 sound (omega arith) b low (omega arith)
 

@@ -9,7 +9,7 @@ use Rattle.names.proofs.Fields.{field-field}
 use Rattle.entry.specs.Fields.{check_bytes, long_bytes}
 use Rattle.entry.specs.declared.stamp.Stamp.{Stamp}
 use Rattle.directory.specs.declared.judgement.Pack.{Pack}
-use Rattle.model.specs.Fresh.{boot_entry, dated, directory_entry, first_block, fresh_pack, initialised, left_entry}
+use Rattle.model.specs.Fresh.{boot_entry, dated, directory_entry, first_block, fresh_known, fresh_pack, initialised, left_entry}
 use Rattle.model.specs.Models.{Model, PackModel, free_table, model_of, stamp_of_date}
 use Rattle.model.specs.Represents.{Decided, Represents, Turn, Turns}
 use Rattle.model.specs.Requests.{initialise}
@@ -76,17 +76,17 @@ module _ (st : State) (d : Device) (work : ℕ) (name : List ℕ) (directory blo
   })
 
 -- the blocks of the directory can be written, also when some are cleared
-pub write-first : (d cleared-d : Device) (work len directory blocks : ℕ) (name : List ℕ) → Facts d work name directory blocks → cleared-d ≡ cleared d 2 (directory - 1) → len ≡ 1024
-    → write_fault cleared-d 1 len ≡ None
-write-first d cleared-d work len directory blocks name f is long =
-    can_write cleared-d directory 1 len (ap (λ (x : Device). x.tab) is ∙ f.off)
+pub write-first : (d cleared-d : Device) (work directory blocks : ℕ) (name : List ℕ) → Facts d work name directory blocks → cleared-d ≡ cleared d 2 (directory - 1)
+    → write_fault cleared-d 1 1024 ≡ None
+write-first d cleared-d work directory blocks name f is =
+    can_write cleared-d directory 1 (ap (λ (x : Device). x.tab) is ∙ f.off)
     (let z : size_of cleared-d ≡ size_of d = ap size_of is ∙ zeroed-long (directory - 1) d.blocks 2 in omega (arith, z, f.least, f.most))
-    (ap (λ (x : Device). first_bad x.marks 1 directory) is ∙ f.sound) (omega arith) f.some long
+    (ap (λ (x : Device). first_bad x.marks 1 directory) is ∙ f.sound) (omega arith) f.some
 
 -- the state and the device, from what was done
-pub state-is : (st : State) (a d f n m : ℕ) (records : List (Option OpenFile)) → a ≡ n → d ≡ m → f ≡ n - (1 + m) → records ≡ free_table
-    → ◌≡◌ {A = State} (record { pack = Some (record { blocks = a; directory = d; left = 3; free = f }); date = st.date; table = record { records = records } }) (fresh_state st m n)
-state-is st a d f n m records p q r s = λ i. record { pack = Some (record { blocks = p i; directory = q i; left = 3; free = r i }); date = st.date; table = record { records = s i } }
+pub state-is : (st : State) (pack : Pack) (m n dir blocks : ℕ) (records : List (Option OpenFile)) → pack ≡ fresh_known m n → m ≡ dir → n ≡ blocks → records ≡ free_table
+    → ◌≡◌ {A = State} (record { pack = Some pack; date = st.date; table = record { records = records } }) (fresh_state st dir blocks)
+state-is st pack m n dir blocks records p q r s = ap₂ (λ pack records. record { pack = Some pack; date = st.date; table = record { records = records } }) (p ∙ ap₂ fresh_known q r) s
 
 pub device-is : (d one two : Device) (name field bytes : List ℕ) (m n dir blocks : ℕ) (date : Option Stamp) → one ≡ cleared d 2 (m - 1) → m ≡ dir → n ≡ blocks → field ≡ name_field name
     → bytes ≡ first_block field m n date → two ≡ written None one 1 bytes → two ≡ initialised d name dir blocks date
