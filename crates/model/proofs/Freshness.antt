@@ -36,7 +36,7 @@ sound-read d (suc n) b h fits k low high =
   where
     split : (o p : Option Fault) → option_or o p ≡ None → (o ≡ None) × (p ≡ None)
     split None p h = (refl, h)
-    split (Some f) p h = absurd (let z : ◌≡◌ {A = ℕ} 0 1 = cc in omega arith)
+    split (Some f) p h = cc
 
     by : (k ≡ b) ⊎ (k ≡ b → ⊥) → mark_fault (mark_at d b) ≡ None → (b + 1 ≤ k → read_fault d k 1024 ≡ None) → read_fault d k 1024 ≡ None
     by (inl q) here later =

@@ -160,7 +160,7 @@ module _ (st₀ : State) (d₀ : Device) (all left : List Request) (made : List 
       by (Some pack) q = ((judgement-law d 1024 (judged d 1024) refl).granted pack (rep.judged pack q)).follows
 
   ends-first : Begins st₀ d₀ all → Unbegun st₀ d₀ all left made st d ⊎ FromFirst st₀ d₀ all left made st d → FromFirst st₀ d₀ all left made st d
-  ends-first b (inl u) = absurd (let never : ◌≡◌ {A = List Request} [] (b.first ∷ b.rest) = sym none ∙ u.all_left ∙ b.is in let z : ◌≡◌ {A = ℕ} 0 1 = cc in omega arith)
+  ends-first b (inl u) = let never : ◌≡◌ {A = List Request} [] (b.first ∷ b.rest) = sym none ∙ u.all_left ∙ b.is in cc
   ends-first b (inr f) = f
 
   pub run-law : Sofar st₀ d₀ all left made st d → RunLaw st₀ d₀ all made st d
@@ -212,5 +212,5 @@ no_items [] h = refl
 no_items (x ∷ xs) h = absurd (omega arith)
 
 pub err-cases : {T E Q : Type 0} (P : T → Type 0) (r : Result T E) (e : E) → r ≡ Err e → Q → MatchResult r P (λ _. Q)
-err-cases P (Ok x) e h q = absurd (let z : ◌≡◌ {A = ℕ} 0 1 = cc in omega arith)
+err-cases P (Ok x) e h q = cc
 err-cases P (Err x) e h q = q

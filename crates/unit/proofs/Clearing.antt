@@ -25,7 +25,7 @@ module _ (d : Device) (b len n m : ℕ) (inside : b < size_of d) (full : len ≡
     where
       go : (o : Option Fault) → mark_fault (mark_at d b) ≡ o → ◌≡◌ {A = Result (Unit {0}) Fault} (Err fault) (outcome o)
           → ◌≡◌ {A = Result (Unit {0}) Refusal} (Err (refusal_of fault)) (after (option_map refusal_of whole) (Ok tt))
-      go None q t = absurd (let z : ◌≡◌ {A = ℕ} 0 1 = cc in omega arith)
+      go None q t = cc
       go (Some own) q t =
           ap (λ f. Err (refusal_of f)) (let same : fault ≡ own = cc in same)
           ∙ ap (λ o. after (option_map refusal_of o) (Ok tt)) (sym (ap (λ o. option_or o (first_bad d.marks (b + 1) m)) q) ∙ sym (ap (first_bad d.marks b) more) ∙ is)
@@ -35,7 +35,7 @@ module _ (d : Device) (b len n m : ℕ) (inside : b < size_of d) (full : len ≡
     where
       go : (o : Option Fault) → ◌≡◌ {A = Result (Unit {0}) Fault} (Ok tt) (outcome o) → o ≡ None
       go None t = refl
-      go (Some fault) t = absurd (let z : ◌≡◌ {A = ℕ} 0 1 = cc in omega arith)
+      go (Some fault) t = cc
 
 pub bad-none : (d : Device) (b n : ℕ) (whole : Option Fault) → n ≡ 0 → first_bad d.marks b n ≡ whole → ◌≡◌ {A = Result (Unit {0}) Refusal} (Ok tt) (after (option_map refusal_of whole) (Ok tt))
 bad-none d b n whole e is = ap (λ o. after (option_map refusal_of o) (Ok tt)) (sym (ap (first_bad d.marks b) e) ∙ is)

@@ -38,7 +38,7 @@ module _ (st : State) (d : Device) (work : ℕ) (name : List ℕ) (directory blo
   d' = initialised d name directory blocks (option_map stamp_of_date st.date)
 
   f : Facts d work name directory blocks
-  f = facts d work name directory blocks none
+  f = facts st d work name directory blocks none
 
   made : initialise_step (model_of st d) work name directory blocks ≡ done_step (up_model (model_of st d) (fresh_pack name directory blocks date))
   made = ap (λ o. unless o (model_of st d) [] (done_step (up_model (model_of st d) (fresh_pack name directory blocks date)))) none
@@ -64,15 +64,15 @@ module _ (st : State) (d : Device) (work : ℕ) (name : List ℕ) (directory blo
   initialise-decided st' after s a = record {
     replied = sym (ap (λ s. s.reply) made);
     represents = λ _. subst (λ x. Represents (initialise_step (model_of st d) work name directory blocks).model st' x) (sym a) (subst (λ x. Represents (initialise_step (model_of st d) work name directory blocks).model x d') (sym s) represented);
-    refused = λ h. absurd (true≢false (sym h));
+    refused = λ h. cc;
   }
 
   pub initialise-turn : (st' : State) (after : Device) → st' ≡ fresh_state st directory blocks → after ≡ d' → Turns st d (initialise work name directory blocks) (done (Ok tt)) st' after
   initialise-turn st' after s a m rep = subst (λ m. Turn m (initialise work name directory blocks) d (done (Ok tt)) st' after) (sym rep.model) (record {
     replied = sym (ap (λ s. s.reply) made);
     represents = subst (λ x. Represents (initialise_step (model_of st d) work name directory blocks).model st' x) (sym a) (subst (λ x. Represents (initialise_step (model_of st d) work name directory blocks).model x d') (sym s) represented);
-    refused = λ h. absurd (true≢false (sym h));
-    bytes = λ h. absurd (true≢false h);
+    refused = λ h. cc;
+    bytes = λ h. cc;
   })
 
 -- the blocks of the directory can be written, also when some are cleared

@@ -19,9 +19,9 @@ use Rattle.directory.specs.Lookups.{lookup_reply}
 use Rattle.directory.specs.declared.judgement.Pack.{Pack}
 use Rattle.directory.specs.declared.lookups.Found.{Found}
 use Rattle.model.specs.Fresh.{fresh_known, initialised, zeroed}
-use Rattle.model.specs.Models.{free_table, stamp_of_date}
+use Rattle.model.specs.Models.{empty_state, free_table, model_of, stamp_of_date}
 use Rattle.model.specs.Requests.{Reply}
-use Rattle.model.specs.Steps.{bad_stage, buffer_stage, first_bad, fits_name, is_name, name_stage, shape_stage, tab_stage, work_stage}
+use Rattle.model.specs.Steps.{buffer_stage, first_bad, fits_name, initialise_refusal, is_name, work_stage}
 use Rattle.model.specs.declared.state.NameKind.{NameKind}
 use Rattle.model.specs.declared.state.State.{State}
 use Rattle.unit.specs.declared.shape.Shape.{Shape}
@@ -82,10 +82,9 @@ state_unless (Some refusal) st pack = st
 abbrev pub state_taken : State → ℕ → Result Pack Refusal → State
 state_taken st work reply = state_unless (work_stage work) st (pack_taken reply)
 
--- Why initialise is refused on a device, if it is.
+-- Why initialise is refused on a device, if it is: whatever the unit knows, so as one that knows nothing.
 abbrev pub refusal_on : Device → ℕ → List ℕ → ℕ → ℕ → Option Refusal
-refusal_on d work name directory blocks =
-    option_or (work_stage work) (option_or (shape_stage (size_of d) directory blocks) (option_or (name_stage (is_volume name)) (option_or (tab_stage d.tab) (bad_stage d.marks directory))))
+refusal_on d work name directory blocks = initialise_refusal (model_of empty_state d) work name directory blocks
 
 -- All blocks of a directory, and block 1, can be written.
 pub record Writable (d : Device) (directory : ℕ) : Type 0 where

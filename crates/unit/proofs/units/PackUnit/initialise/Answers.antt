@@ -10,14 +10,14 @@ pub zero_blocks-requires : goal.zero_blocks-requires
 zero_blocks-requires g c =
     let d = g.D.BlockDevice.meaning c.args.self.now.device in
     let a = c.in_ok-shape.ensures in
-    subst (Writable d) (sym a.counted) (writable d 1024 c.args.name.now c.args.directory c.args.blocks (facts d 1024 c.args.name.now c.args.directory c.args.blocks a.none))
+    subst (Writable d) (sym a.counted) (writable d 1024 c.args.name.now c.args.directory c.args.blocks (facts c.args.self.now.state d 1024 c.args.name.now c.args.directory c.args.blocks a.none))
 
 pub write_block-requires : goal.write_block-requires
 write_block-requires g c =
     let d = g.D.BlockDevice.meaning c.args.self.now.device in
     let a = c.in_ok-shape.ensures in
     write-first d (g.D.BlockDevice.meaning c.zero_blocks.new.device) 1024 c.args.directory c.args.blocks c.args.name.now
-    (facts d 1024 c.args.name.now c.args.directory c.args.blocks a.none) (c.zero_blocks.ensures ∙ ap (λ k. cleared d 2 (k - 1)) a.counted)
+    (facts c.args.self.now.state d 1024 c.args.name.now c.args.directory c.args.blocks a.none) (c.zero_blocks.ensures ∙ ap (λ k. cleared d 2 (k - 1)) a.counted)
 
 pub returns : goal.returns
 returns g c =
