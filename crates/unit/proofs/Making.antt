@@ -1,6 +1,5 @@
 -- A granted initialise: what was tested, and what the device and the state are then. Assumes nothing.
 use Rattle.std.proofs.Common.{◌≡◌, ℕ, ◌+◌, ◌-◌, ◌≤◌, true, List, [], ◌∷◌, ◌++◌, replicate, Some, None, Ok, Option, Result, sym, ap, ◌∙◌, subst, ap₂, arith}
-use Rattle.std.proofs.lemmas.Bool.{true≢false}
 use Rattle.std.specs.Option.{option_map}
 use Rattle.refusal.specs.declared.Refusal.{Refusal}
 use Rattle.blocks.specs.Devices.{Device, size_of, write_fault, written}
@@ -20,9 +19,6 @@ use Rattle.model.proofs.Stages.{Facts, facts}
 use Rattle.model.proofs.Freshness.{fresh-judged, fresh-pack, size_same, zeroed-long}
 use Rattle.unit.specs.Calls.{Writable, cleared, done, fresh_state, refusal_on}
 use Rattle.unit.proofs.Clearing.{can_write}
-
-pub writable : (d : Device) (work : ℕ) (name : List ℕ) (directory blocks : ℕ) → Facts d work name directory blocks → Writable d directory
-writable d work name directory blocks f = record { off = f.off; within = omega (arith, f.least, f.most); sound = f.sound }
 
 -- a name that is held as a field makes the same block
 pub same_block : (name field : List ℕ) (directory blocks : ℕ) (date : Option Stamp) → field ≡ name_field name → first_block field directory blocks date ≡ first_block name directory blocks date

@@ -6,13 +6,13 @@
 --   state_taken                what a unit knows after a take up
 --   pack_asked                 the pack that find and show ask, or what refuses both
 --   file_found, file_shown     the file that find and show are about, or why there is none
-use Rattle.std.specs.Prelude.{◌≡◌, ℕ, ◌+◌, ◌-◌, ◌<◌, cond, ◌&&◌, List, [], Some, None, Ok, Err, Option, Result, nat_le, nat_lt}
-use Rattle.std.specs.Option.{ok_or, option_map, option_or}
+use Rattle.std.specs.Prelude.{◌≡◌, ℕ, ◌<◌, cond, ◌&&◌, List, [], Some, None, Ok, Err, Option, Result, nat_le, nat_lt}
+use Rattle.std.specs.Option.{ok_or, option_map}
 use Rattle.refusal.specs.declared.Refusal.{Refusal}
 use Rattle.refusal.specs.declared.Refusal.TheVariants.{BadName, NoPack, NoSuchFile}
 use Rattle.blocks.specs.Devices.{Device, size_of}
 use Rattle.blocks.specs.declared.faults.Tab.TheVariants.{Off}
-use Rattle.names.specs.Names.{is_volume, name_field}
+use Rattle.names.specs.Names.{name_field}
 use Rattle.entry.specs.declared.fields.Entry.{Entry}
 use Rattle.directory.specs.Entries.{entry_read}
 use Rattle.directory.specs.Lookups.{lookup_reply}

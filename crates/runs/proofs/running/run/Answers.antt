@@ -1,15 +1,12 @@
-use Rattle.std.proofs.Common.{[], ◌∷◌, map, vec_items, sym, refl, ap, ◌∙◌, arith}
+use Rattle.std.proofs.Common.{[], ◌∷◌, map, vec_items, sym, ap, ◌∙◌, arith}
 use mathlib.Core.List.{map-append}
-use Rattle.std.proofs.lemmas.Result.{err_from_is_err_and}
 use Rattle.std.specs.Vec.Iter.{into_iter_items}
 use Rattle.requests.specs.Values.{meant, told}
-use Rattle.runs.proofs.Tracing.{composes, err-cases, law-of, no_items, sofar-next}
+use Rattle.runs.proofs.Tracing.{composes, law-of, no_items, sofar-next}
 use Rattle.runs.proofs.running.run.Goals as goal
 
-pub returns-in_err-replies : goal.returns-in_err-replies
-returns-in_err-replies g c =
-    let exit = err_from_is_err_and c.from_residual.result c.from_residual.ensures.1 in
-    record { law = err-cases _ c.from_residual.result exit.0 exit.1 refl; compose = composes }
+pub returns-in_err-replies-clause-compose : goal.returns-in_err-replies-clause-compose
+returns-in_err-replies-clause-compose g c = composes
 
 pub loop-request-preserved : goal.loop-request-preserved
 loop-request-preserved g c =

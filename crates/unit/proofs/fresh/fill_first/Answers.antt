@@ -1,4 +1,4 @@
-use Rattle.std.proofs.Common.{replicate, ap, ◌∙◌, arith}
+use Rattle.std.proofs.Common.{replicate, ap, ◌∙◌}
 use Rattle.std.specs.Option.{option_map}
 use Rattle.parts.specs.Parts.{stored}
 use Rattle.model.specs.Fresh.{boot_entry, directory_entry, left_entry, volume_entry}

@@ -1,11 +1,7 @@
-use Rattle.std.proofs.Common.{◌≡◌, ◌+◌, ◌-◌, replicate, ap, ◌∙◌, arith}
+use Rattle.std.proofs.Common.{◌+◌, ◌-◌, replicate, ap, ◌∙◌, arith}
 use Rattle.model.specs.Steps.{first_bad}
-use Rattle.unit.specs.Calls.{cleared}
 use Rattle.unit.proofs.Clearing.{can_write, clear-on, same-marks}
 use Rattle.unit.proofs.initialising.zero_blocks.Goals as goal
-
-pub loop-block-init : goal.loop-block-init
-loop-block-init g c = ap (cleared (g.D.BlockDevice.meaning c.args.device.now) 2) (let z : c.args.directory + 1 - 2 ≡ c.args.directory - 1 = omega arith in z)
 
 pub write_block-requires : goal.write_block-requires
 write_block-requires g c =

@@ -1,16 +1,10 @@
-use Rattle.std.proofs.Common.{◌≡◌, ◌-◌, length, None, sym, ap, ◌∙◌, subst}
+use Rattle.std.proofs.Common.{◌≡◌, ◌-◌, length, None, sym, ap, ◌∙◌}
 use Rattle.std.specs.Option.{option_map}
 use Rattle.model.specs.Models.{stamp_of_date}
-use Rattle.unit.specs.Calls.{Writable, cleared, refusal_on}
+use Rattle.unit.specs.Calls.{cleared, refusal_on}
 use Rattle.model.proofs.Stages.{facts}
-use Rattle.unit.proofs.Making.{device-is, initialise-decided, initialise-turn, state-is, writable, write-first}
+use Rattle.unit.proofs.Making.{device-is, initialise-decided, initialise-turn, state-is, write-first}
 use Rattle.unit.proofs.units.PackUnit.initialise.Goals as goal
-
-pub zero_blocks-requires : goal.zero_blocks-requires
-zero_blocks-requires g c =
-    let d = g.D.BlockDevice.meaning c.args.self.now.device in
-    let a = c.in_ok-shape.ensures in
-    subst (Writable d) (sym a.counted) (writable d 1024 c.args.name.now c.args.directory c.args.blocks (facts c.args.self.now.state d 1024 c.args.name.now c.args.directory c.args.blocks a.none))
 
 pub write_block-requires : goal.write_block-requires
 write_block-requires g c =
