@@ -196,7 +196,3 @@ sofar-next st₀ d₀ all left made made' st st' d d' request rest reply small i
 
 pub law-of : (st₀ : State) (d₀ : Device) (all all' left : List Request) (made : List Reply) (st : State) (d : Device) → left ≡ [] → all ≡ all' → Sofar st₀ d₀ all left made st d → RunLaw st₀ d₀ all' made st d
 law-of st₀ d₀ all all' left made st d none is s = subst (λ x. RunLaw st₀ d₀ x made st d) is (run-law st₀ d₀ all left made st d none s)
-
-pub no_items : {X : Type 0} (xs : List X) → length xs ≡ 0 → xs ≡ []
-no_items [] h = refl
-no_items (x ∷ xs) h = absurd (omega arith)

@@ -1,5 +1,6 @@
 -- Entries built field by field, and the block that holds them. Assumes nothing.
-use Rattle.std.proofs.Common.{◌≡◌, ℕ, suc, ◌+◌, ◌-◌, List, [], ◌∷◌, ◌++◌, length, take, drop, replicate, Some, None, Option, refl, ap, ◌∙◌, ap₂, append_assoc, arith}
+use Rattle.std.proofs.Common.{◌≡◌, ℕ, ◌+◌, ◌-◌, List, [], ◌∷◌, ◌++◌, length, take, drop, replicate, Some, None, Option, refl, ap, ◌∙◌, ap₂, append_assoc, arith}
+use Rattle.std.proofs.Math.Seq.{take-append-add}
 use Rattle.std.proofs.lemmas.List.{drop-replicate}
 use Rattle.std.specs.Option.{option_map}
 use Rattle.entry.specs.Fields.{check_bytes, long_bytes}
@@ -10,14 +11,10 @@ use Rattle.model.specs.Fresh.{begun, dated}
 use Rattle.model.specs.Models.{stamp_of_date}
 use Rattle.model.proofs.Fields.{past}
 
-take_past : (xs ys : List ℕ) (n k : ℕ) → n ≡ length xs + k → take n (xs ++ ys) ≡ xs ++ take k ys
-take_past [] ys n k e = ap (λ j. take j ys) (let z : n ≡ k = omega arith in z)
-take_past (x ∷ xs) ys n k e = ap (λ j. take j (x ∷ (xs ++ ys))) (let z : n ≡ suc (length xs + k) = omega arith in z) ∙ ap (λ zs. x ∷ zs) (take_past xs ys (length xs + k) k refl)
-
 -- a write behind the front changes what is behind it alone
 behind : (front tail new : List ℕ) (m at k : ℕ) → length front ≡ m → at ≡ m + k → stored (front ++ tail) at new ≡ front ++ stored tail k new
 behind front tail new m at k long is =
-    ap₂ (λ one two. one ++ (new ++ two)) (take_past front tail at k (omega arith)) (past front tail m (at + length new) (k + length new) long (omega arith))
+    ap₂ (λ one two. one ++ (new ++ two)) (ap (λ n. take n (front ++ tail)) (let z : at ≡ length front + k = omega arith in z) ∙ take-append-add front tail k) (past front tail m (at + length new) (k + length new) long (omega arith))
     ∙ append_assoc front (take k tail) (new ++ drop (k + length new) tail)
 
 step : (front tail new b b' : List ℕ) (m at k : ℕ) → length front ≡ m → at ≡ m + k → b ≡ front ++ tail → b' ≡ stored b at new → b' ≡ front ++ stored tail k new

@@ -1,15 +1,14 @@
 -- The blocks that initialise reads and writes. Assumes nothing.
-use Rattle.std.proofs.Common.{◌≡◌, ℕ, suc, ◌+◌, ◌<◌, ◌≤◌, cond, eqb, ltb, List, length, replicate, Some, None, Ok, Err, Option, Result, sym, refl, ap, ◌∙◌, arith}
+use Rattle.std.proofs.Common.{◌≡◌, ℕ, suc, ◌+◌, ◌<◌, ◌≤◌, cond, eqb, ltb, List, length, replicate, Some, None, Ok, Option, Result, sym, refl, ap, ◌∙◌, arith}
 use Rattle.std.proofs.lemmas.Bool.{and_from, lt-ltb}
-use Rattle.std.specs.Option.{option_map, option_or}
-use Rattle.refusal.specs.declared.Refusal.{Refusal}
-use Rattle.blocks.specs.Devices.{Device, mark_at, mark_fault, outcome, read_fault, refusal_of, size_of, tab_fault, write_fault, written}
+use Rattle.std.specs.Option.{option_or}
+use Rattle.blocks.specs.Devices.{Device, mark_at, mark_fault, outcome, read_fault, size_of, tab_fault, write_fault, written}
 use Rattle.blocks.specs.declared.faults.Fault.{Fault}
 use Rattle.blocks.specs.declared.faults.Fault.TheVariants.{OutOfRange}
 use Rattle.blocks.specs.declared.faults.Tab.TheVariants.{Off}
 use Rattle.model.specs.Steps.{first_bad}
 use Rattle.model.proofs.Freshness.{sound-read, zeroed-long}
-use Rattle.unit.specs.Calls.{after, cleared}
+use Rattle.unit.specs.Calls.{cleared}
 
 -- a block of the device is refused by its mark alone
 mark-read : (d : Device) (b len : ℕ) → b < size_of d → len ≡ 1024 → read_fault d b len ≡ mark_fault (mark_at d b)

@@ -1,8 +1,9 @@
 -- A granted initialise: what was tested, and what the device and the state are then. Assumes nothing.
-use Rattle.std.proofs.Common.{◌≡◌, ℕ, ◌+◌, ◌-◌, ◌≤◌, true, List, [], ◌∷◌, ◌++◌, replicate, Some, None, Ok, Option, Result, sym, ap, ◌∙◌, subst, ap₂, arith}
+use Rattle.std.proofs.Common.{◌≡◌, ℕ, ◌+◌, ◌-◌, ◌<◌, ◌≤◌, true, false, is_err, length, refl, Err, List, [], ◌∷◌, ◌++◌, replicate, Some, None, Ok, Option, Result, sym, ap, ne_eqb, ◌∙◌, subst, ap₂, arith}
 use Rattle.std.specs.Option.{option_map}
 use Rattle.refusal.specs.declared.Refusal.{Refusal}
-use Rattle.blocks.specs.Devices.{Device, size_of, write_fault, written}
+use Rattle.refusal.specs.declared.Refusal.TheVariants.{OutOfRange}
+use Rattle.blocks.specs.Devices.{Device, block_at, size_of, write_fault, written}
 use Rattle.names.specs.Names.{name_field}
 use Rattle.names.proofs.Fields.{field-field}
 use Rattle.entry.specs.Fields.{check_bytes, long_bytes}
@@ -11,13 +12,13 @@ use Rattle.directory.specs.declared.judgement.Pack.{Pack}
 use Rattle.model.specs.Fresh.{boot_entry, dated, directory_entry, first_block, fresh_known, fresh_pack, initialised, left_entry}
 use Rattle.model.specs.Models.{Model, PackModel, free_table, model_of, stamp_of_date}
 use Rattle.model.specs.Represents.{Decided, Represents, Turn, Turns}
-use Rattle.model.specs.Requests.{initialise}
-use Rattle.model.specs.Steps.{done_step, first_bad, initialise_step, unless, up_model}
+use Rattle.model.specs.Requests.{Reply, initialise}
+use Rattle.model.specs.Steps.{done_step, first_bad, initialise_step, refused_step, unless, up_model}
 use Rattle.model.specs.declared.state.OpenFile.{OpenFile}
 use Rattle.model.specs.declared.state.State.{State}
 use Rattle.model.proofs.Stages.{Facts, facts}
 use Rattle.model.proofs.Freshness.{fresh-judged, fresh-pack, size_same, zeroed-long}
-use Rattle.unit.specs.Calls.{Writable, cleared, done, fresh_state, refusal_on}
+use Rattle.unit.specs.Calls.{cleared, done, fresh_state, refusal_on}
 use Rattle.unit.proofs.Clearing.{can_write}
 
 -- a name that is held as a field makes the same block
@@ -68,6 +69,31 @@ module _ (st : State) (d : Device) (work : ℕ) (name : List ℕ) (directory blo
     replied = sym (ap (λ s. s.reply) made);
     represents = subst (λ x. Represents (initialise_step (model_of st d) work name directory blocks).model st' x) (sym a) (subst (λ x. Represents (initialise_step (model_of st d) work name directory blocks).model x d') (sym s) represented);
     refused = λ h. cc;
+    bytes = λ h. cc;
+  })
+
+-- a work block of another length is refused
+pub unfit : (d : Device) (work : ℕ) (name : List ℕ) (directory blocks : ℕ) → (work ≡ 1024 → ⊥) → refusal_on d work name directory blocks ≡ Some OutOfRange
+unfit d work name directory blocks other = rw (ne_eqb work 1024 other)
+
+-- a refused initialise
+module _ (st : State) (d : Device) (wide : (b : ℕ) → b < size_of d → length (block_at d b) ≡ 1024) (work : ℕ) (name : List ℕ) (directory blocks : ℕ) (refusal : Refusal)
+    (is : refusal_on d work name directory blocks ≡ Some refusal) where
+  refused : initialise_step (model_of st d) work name directory blocks ≡ refused_step (model_of st d) [] refusal
+  refused = ap (λ o. unless o (model_of st d) [] (done_step (up_model (model_of st d) (fresh_pack name directory blocks (option_map stamp_of_date st.date))))) is
+
+  pub refused-decided : (reply : Reply) → reply ≡ done (Err refusal) → Decided st d (initialise work name directory blocks) reply st d
+  refused-decided reply told = record {
+    replied = told ∙ sym (ap (λ s. s.reply) refused);
+    represents = λ granted. let never : true ≡ false = sym (ap (λ (r : Reply). is_err r.answer) told) ∙ granted in cc;
+    refused = λ _. refl;
+  }
+
+  pub refused-turn : (reply : Reply) → reply ≡ done (Err refusal) → Turns st d (initialise work name directory blocks) reply st d
+  refused-turn reply told m rep = subst (λ m. Turn m (initialise work name directory blocks) d reply st d) (sym rep.model) (record {
+    replied = told ∙ sym (ap (λ s. s.reply) refused);
+    represents = record { model = ap (λ s. s.model) refused; judged = rep.judged };
+    refused = λ _. refl;
     bytes = λ h. cc;
   })
 

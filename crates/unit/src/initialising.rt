@@ -19,7 +19,8 @@ use model::OpenTable;
 use names::VolumeName;
 use refusal::Refusal;
 
-// The directory has 1 to 127 blocks, and the pack at least one more than that and no more than the device.
+// The directory has 1 to 127 blocks, and the pack at least one more than that and no more than the device. Comparisons
+// and not ranges: one that begins at `directory + 1` is there only once the directory was tested.
 fn check_shape(size: u32, directory: u32, blocks: u32) -> Result<(), Refusal>
     ensures { result ≡ after (shape_stage size directory blocks) (Ok tt) }
 {
@@ -68,6 +69,7 @@ fn admit<D: BlockDevice>(
     let name = VolumeName::new(name)?;
     check_tab(device.tab())?;
     check_blocks(device, directory, work)?;
+    // casts and not `try_from`, which could not fail: the numbers were tested
     Ok(Shape {
         name,
         directory: directory as u8,
