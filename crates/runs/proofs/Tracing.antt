@@ -1,5 +1,5 @@
 -- A run, one call on and at its end. Assumes nothing.
-use Rattle.std.proofs.Common.{◌≡◌, ◌≤◌, true, false, ◌⊎◌, List, [], ◌∷◌, ◌++◌, length, is_some, is_err, Some, None, Option, sym, refl, ap, ◌∙◌, subst, ap₂, inl, inr, append_assoc, append-nil, arith}
+use Rattle.std.proofs.Common.{◌≡◌, ◌≤◌, true, false, ◌⊎◌, List, [], ◌∷◌, ◌++◌, is_some, is_err, Some, None, Option, sym, refl, ap, ◌∙◌, subst, ap₂, inl, inr, append_assoc, append-nil}
 use Rattle.std.proofs.lemmas.Bool.{true≢false}
 use Rattle.blocks.specs.Devices.{Device, size_of}
 use Rattle.directory.specs.Judgements.{judged}
