@@ -4,7 +4,7 @@
 --   word, long     the number in two or in four bytes, the low byte first; word_bytes and long_bytes write it
 --   bit            a bit of a byte, 0 the lowest
 --   name_of .. date_of, check_of, size_of, directory_of   the fields of an entry, by position
-use Rattle.std.specs.Prelude.{ℕ, ◌+◌, ◌*◌, ◌/◌, ◌%◌, ◌^◌, Bool, List, [], ◌∷◌, ◌++◌, length, take, drop, ◌==◌, slice_index}
+use Rattle.std.specs.Prelude.{ℕ, ◌+◌, ◌*◌, ◌/◌, ◌%◌, ◌^◌, Bool, List, [], ◌∷◌, ◌==◌, slice_index}
 use Rattle.parts.specs.Parts.{part, stored}
 
 -- The 26 bytes of the entry of a number in the directory block that holds it: 39 entries stand in a block.

@@ -1,19 +1,21 @@
 // The attribute byte of an entry, its bits by name.
-ghost use Rattle.std.specs.Prelude.{◌≡◌, ◌<◌};
+ghost use Rattle.std.specs.Prelude.{◌≡◌, ◌^◌};
+ghost use Rattle.std.specs.Int.Bits.{bit_or};
 ghost use Rattle.entry.specs.Attributes.{bit_of};
 ghost use Rattle.entry.specs.Fields.{bit as is_set};
 
-// What the bits say of a file. In the volume's entry they mean something else.
+// What the bits say of a file, each by its place in the byte, 0 the lowest. In the volume's entry they mean
+// something else.
 #[derive(Clone, Copy, PartialEq, Eq, Debug)]
 pub enum Attribute {
-    Locked,
-    WriteProtected,
-    ReadProtected,
-    User,
-    System,
-    Deleted,
-    ExecuteProtected,
-    BlocksLeft,
+    Locked = 7,
+    WriteProtected = 6,
+    ReadProtected = 5,
+    User = 4,
+    System = 3,
+    Deleted = 2,
+    ExecuteProtected = 1,
+    BlocksLeft = 0,
 }
 
 impl Attribute {
@@ -21,16 +23,7 @@ impl Attribute {
     pub fn bit(self) -> u8
         ensures { result ≡ bit_of self }
     {
-        match self {
-            Attribute::Locked => 7,
-            Attribute::WriteProtected => 6,
-            Attribute::ReadProtected => 5,
-            Attribute::User => 4,
-            Attribute::System => 3,
-            Attribute::Deleted => 2,
-            Attribute::ExecuteProtected => 1,
-            Attribute::BlocksLeft => 0,
-        }
+        self as u8
     }
 }
 
@@ -40,18 +33,22 @@ pub struct Attributes {
     pub byte: u8,
 }
 
-// Whether a bit of a byte is set.
-fn is_set(byte: u8, bit: u8) -> bool
-    requires { bit < 8 }
-    ensures { result ≡ is_set bit byte }
-{
-    (byte >> bit) & 1 == 1
-}
-
 impl Attributes {
+    // No attribute at all.
+    pub const NONE: Attributes = Attributes { byte: 0 };
+
     pub fn has(self, attribute: Attribute) -> bool
         ensures { result ≡ is_set (bit_of attribute) self.byte }
     {
-        is_set(self.byte, attribute.bit())
+        (self.byte >> attribute.bit()) & 1 == 1
+    }
+
+    // These and one more.
+    pub fn with(self, attribute: Attribute) -> Attributes
+        ensures { result.byte ≡ bit_or self.byte (2 ^ bit_of attribute) }
+    {
+        Attributes {
+            byte: self.byte | 1 << attribute.bit(),
+        }
     }
 }

@@ -5,11 +5,6 @@ ghost use Rattle.refusal.specs.declared.Refusal.TheVariants.{OutOfRange};
 
 use refusal::Refusal;
 
-// The lengths of the months: twelve of a plain year, then twelve of a leap year.
-const MONTH_LENGTHS: [u8; 24] = [
-    31, 28, 31, 30, 31, 30, 31, 31, 30, 31, 30, 31, 31, 29, 31, 30, 31, 30, 31, 31, 30, 31, 30, 31,
-];
-
 // A calendar day of 1983 to 2155.
 #[derive(Clone, Copy, PartialEq, Eq, Debug)]
 pub struct Date {
@@ -25,31 +20,32 @@ fn is_leap(year: u32) -> bool
     year % 4 == 0 && (year % 100 != 0 || year % 400 == 0)
 }
 
-// The days of a month, 1 to 12.
-fn month_length(year: u32, month: u32) -> u8
-    requires { (0 < month) × (month ≤ 12) }
+// The days of a month.
+fn month_length(year: u32, month: u32) -> u32
     ensures { result ≡ days_in year month }
 {
-    let kind = if is_leap(year) { 1 } else { 0 };
-    MONTH_LENGTHS[12 * kind + month as usize - 1]
+    match month {
+        2 if is_leap(year) => 29,
+        2 => 28,
+        4 | 6 | 9 | 11 => 30,
+        _ => 31,
+    }
 }
 
 impl Date {
-    // The day that is given, or the refusal of what is no calendar day of 1983 to 2155.
+    // The day that is given, or the refusal of what is no calendar day of 1983 to 2155. The casts are proved to fit
+    // by the pattern: a `try_from` would add an error that cannot come.
     pub fn new(year: u32, month: u32, day: u32) -> Result<Date, Refusal>
         ensures { MatchResult result (λ date. (is_day year month day ≡ true) × (date.year ≡ year) × (date.month ≡ month) × (date.day ≡ day)) (λ e. (is_day year month day ≡ false) × (e ≡ OutOfRange)) }
     {
-        if year < 1983 || year > 2155 || month < 1 || month > 12 {
-            return Err(Refusal::OutOfRange);
+        match (year, month) {
+            (1983..=2155, 1..=12) if 1 <= day && day <= month_length(year, month) => Ok(Date {
+                year: year as u16,
+                month: month as u8,
+                day: day as u8,
+            }),
+            _ => Err(Refusal::OutOfRange),
         }
-        if day < 1 || day > u32::from(month_length(year, month)) {
-            return Err(Refusal::OutOfRange);
-        }
-        Ok(Date {
-            year: year as u16,
-            month: month as u8,
-            day: day as u8,
-        })
     }
 
     pub fn year(&self) -> u16

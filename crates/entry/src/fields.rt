@@ -1,4 +1,5 @@
-// The fields of an entry, read from their places in its 26 bytes.
+// The fields of an entry, read from their places in its 26 bytes. One method for each, and not one over a trait of
+// fields: place, type and name differ in each, and such a trait would state all three again beside the method.
 ghost use Rattle.std.specs.Prelude.{◌≡◌, ◌*◌, ◌%◌};
 ghost use Rattle.entry.specs.Fields.{attributes_of, check_bytes, check_of, date_of, directory_of, entry_in, first_of, last_of, name_of, put_in, room_of, size_of, used_of};
 ghost use Rattle.entry.specs.Lengths.{length_of};
@@ -7,6 +8,7 @@ ghost use Rattle.std.specs.Str.{bytes_eq};
 
 use crate::attributes::Attributes;
 use crate::length::{BLOCK, length_of};
+use crate::numbers::array_at;
 use crate::stamp::{Stamp, read_stamp};
 use names::{FIELD, same_bytes};
 
@@ -20,7 +22,7 @@ pub const ENTRIES: u32 = 39;
 pub const CHECK_BYTES: [u8; 4] = [0x55, 0xaa, 0x00, 0xff];
 
 // Twenty-six bytes of the directory. Any bytes are an entry; what they mean is read field by field.
-#[derive(Clone, Copy, Debug)]
+#[derive(Clone, Copy, PartialEq, Eq, Debug)]
 pub struct Entry {
     pub bytes: [u8; ENTRY],
 }
@@ -37,10 +39,9 @@ impl Entry {
     pub fn from_block(block: &[u8; BLOCK], number: u32) -> Entry
         ensures { result.bytes ≡ entry_in block.now number }
     {
-        let at = place_of(number);
-        let mut bytes = [0; ENTRY];
-        bytes.copy_from_slice(&block[at..at + ENTRY]);
-        Entry { bytes }
+        Entry {
+            bytes: array_at(block, place_of(number)),
+        }
     }
 
     // Puts the entry in the place of the entry of that number, in the directory block that holds it.
@@ -104,9 +105,7 @@ impl Entry {
     pub fn stamp(&self) -> Option<Stamp>
         ensures { result ≡ stamp_of (date_of self.now.bytes) }
     {
-        let mut date = [0; 3];
-        date.copy_from_slice(&self.bytes[23..26]);
-        read_stamp(date)
+        read_stamp(array_at(&self.bytes, 23))
     }
 
     // In the volume's entry: whether the bytes stand there by which a directory is known.

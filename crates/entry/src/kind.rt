@@ -1,17 +1,17 @@
 // What an entry is, by its number and its attributes.
 ghost use Rattle.std.specs.Prelude.{◌≡◌};
-ghost use Rattle.entry.specs.Fields.{attributes_of, entry_in, name_of};
+ghost use Rattle.entry.specs.Fields.{entry_in, name_of};
 ghost use Rattle.entry.specs.Kinds.{kind_of, listed};
 ghost use Rattle.names.specs.Names.{characters as characters_of};
 ghost use Rattle.std.specs.Option.{option_map};
 
-use crate::attributes::{Attribute, Attributes};
-use crate::fields::place_of;
+use crate::attributes::Attribute;
+use crate::fields::{Entry, place_of};
 use crate::length::BLOCK;
 use names::{FIELD, characters};
 
 // A kind of entry, with its name lent from the directory block that is being read.
-#[derive(Clone, Copy)]
+#[derive(Clone, Copy, PartialEq, Eq, Debug)]
 pub enum Kind<'a> {
     Volume(&'a [u8]),
     Live(&'a [u8]),
@@ -19,23 +19,12 @@ pub enum Kind<'a> {
     BlocksLeft(&'a [u8]),
 }
 
-// The name of an entry, lent from its block, and its attributes.
-struct Head<'a> {
-    name: &'a [u8],
-    attributes: Attributes,
-}
-
-fn head_of(block: &[u8; BLOCK], number: u32) -> Head<'_>
-    ensures name { result.name.now ≡ characters_of (name_of (entry_in block.now number)) }
-    ensures attributes { result.attributes.byte ≡ attributes_of (entry_in block.now number) }
+// The name of the entry of that number, lent from its block.
+fn name_in(block: &[u8; BLOCK], number: u32) -> &[u8]
+    ensures { result.now ≡ characters_of (name_of (entry_in block.now number)) }
 {
     let at = place_of(number);
-    Head {
-        name: characters(&block[at..at + FIELD]),
-        attributes: Attributes {
-            byte: block[at + FIELD],
-        },
-    }
+    characters(&block[at..at + FIELD])
 }
 
 // The kind of the entry of that number in the directory block that holds it. The entries 1 and 2, of the boot block
@@ -43,7 +32,8 @@ fn head_of(block: &[u8; BLOCK], number: u32) -> Head<'_>
 pub fn kind_of(block: &[u8; BLOCK], number: u32) -> Option<Kind<'_>>
     ensures { option_map listed result ≡ kind_of block.now number }
 {
-    let Head { name, attributes } = head_of(block, number);
+    let name = name_in(block, number);
+    let attributes = Entry::from_block(block, number).attributes();
     match number {
         0 => Some(Kind::Volume(name)),
         1 | 2 => None,

@@ -10,6 +10,7 @@ pub const LONGEST: u32 = 67_107_840;
 
 // The used blocks and the bytes in the last of them, or nothing for a length that no entry can hold.
 // A full last block counts 1,024, and only an empty file 0.
+// A tuple and not a struct: the two are separate words of an entry, and nothing but these two functions joins them.
 pub fn split(length: u32) -> Option<(u16, u16)>
     ensures value { result ≡ (if nat_le length longest then Some (split_of length) else None) }
     ensures back { IfSome result (λ pair. length_of pair.0 pair.1 ≡ Some length) }
@@ -17,7 +18,7 @@ pub fn split(length: u32) -> Option<(u16, u16)>
     if length > LONGEST {
         return None;
     }
-    let used = (length + 1023) / 1024;
+    let used = length.div_ceil(1024);
     let last = length - 1024 * used.saturating_sub(1);
     Some((used as u16, last as u16))
 }

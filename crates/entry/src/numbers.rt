@@ -1,9 +1,19 @@
 // Numbers of two and four bytes in an entry, the low byte first.
 ghost use Rattle.std.specs.Prelude.{◌≡◌, ◌+◌, ◌≤◌, length};
 ghost use Rattle.entry.specs.Fields.{long as long_at, word as word_at};
-ghost use Rattle.parts.specs.Parts.{stored};
+ghost use Rattle.parts.specs.Parts.{part, stored};
 
 use crate::fields::Entry;
+
+// The bytes at a place, as many as the array has.
+pub(crate) fn array_at<const N: usize>(bytes: &[u8], at: usize) -> [u8; N]
+    requires { at + N ≤ length bytes.now }
+    ensures { result ≡ part at N bytes.now }
+{
+    let mut array = [0; N];
+    array.copy_from_slice(&bytes[at..at + N]);
+    array
+}
 
 impl Entry {
     // The number in the two bytes at a place.
@@ -11,7 +21,7 @@ impl Entry {
         requires { at + 2 ≤ 26 }
         ensures { result ≡ word_at self.now.bytes at }
     {
-        u16::from_le_bytes([self.bytes[at], self.bytes[at + 1]])
+        u16::from_le_bytes(array_at(&self.bytes, at))
     }
 
     // The number in the four bytes at a place.
@@ -19,12 +29,7 @@ impl Entry {
         requires { at + 4 ≤ 26 }
         ensures { result ≡ long_at self.now.bytes at }
     {
-        u32::from_le_bytes([
-            self.bytes[at],
-            self.bytes[at + 1],
-            self.bytes[at + 2],
-            self.bytes[at + 3],
-        ])
+        u32::from_le_bytes(array_at(&self.bytes, at))
     }
 
     // Puts bytes over those at a place.

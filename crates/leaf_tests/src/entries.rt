@@ -1,6 +1,7 @@
 // The 26 bytes of an entry: lengths, fields and kinds.
 use entry::{
-    Attribute, Attributes, BLOCK, CHECK_BYTES, Date, ENTRY, Entry, Kind, kind_of, length_of, split,
+    Attribute, Attributes, BLOCK, CHECK_BYTES, Date, ENTRY, Entry, Kind, Stamp, kind_of, length_of,
+    split,
 };
 use std::test::Fail;
 
@@ -53,7 +54,7 @@ fn counting() -> Entry {
 }
 
 #[test]
-fn every_field_is_read_from_its_place(rt: HostRuntime) -> Result<(), Fail> {
+fn every_field_is_read_from_its_place(rt: HostRuntime) {
     let e = counting();
     assert!(rt; e.name_field() == [0, 1, 2, 3, 4, 5, 6, 7, 8, 9, 10, 11].as_slice());
     assert_eq!(rt; e.attributes().byte, 12);
@@ -65,13 +66,12 @@ fn every_field_is_read_from_its_place(rt: HostRuntime) -> Result<(), Fail> {
     assert_eq!(rt; e.directory_blocks(), 12);
     assert!(rt; !e.has_check_bytes());
     assert_eq!(rt; e.length(), None);
-    let Some(stamp) = e.stamp() else {
-        return Err(Fail::new("the date is 23, 24, 25"));
+    let stamp = Stamp {
+        year: 1923,
+        month: 24,
+        day: 25,
     };
-    assert_eq!(rt; stamp.year, 1923);
-    assert_eq!(rt; stamp.month, 24);
-    assert_eq!(rt; stamp.day, 25);
-    Ok(())
+    assert_eq!(rt; e.stamp(), Some(stamp));
 }
 
 #[test]
@@ -108,9 +108,7 @@ fn writing_the_fields_of_a_file(rt: HostRuntime) {
 #[test]
 fn writing_the_fields_of_a_volume(rt: HostRuntime) -> Result<(), Fail> {
     let mut e = Entry { bytes: [0; ENTRY] };
-    let Ok(date) = Date::new(1987, 7, 17) else {
-        return Err(Fail::new("a day of July"));
-    };
+    let date = Date::new(1987, 7, 17)?;
     e.set_check_bytes();
     e.set_size(0x00010203);
     e.set_date(Some(date));
@@ -141,63 +139,60 @@ fn attribute_bits(rt: HostRuntime) {
         assert!(rt; Attributes { byte }.has(attribute));
         assert!(rt; !Attributes { byte: 255 - byte }.has(attribute));
         assert!(rt; Attributes { byte: 255 }.has(attribute));
+        assert_eq!(rt; Attributes::NONE.with(attribute), Attributes { byte });
+        assert_eq!(rt;
+            Attributes { byte: 255 }.with(attribute),
+            Attributes { byte: 255 }
+        );
     }
+}
+
+#[test]
+fn attributes_put_together(rt: HostRuntime) {
+    let boot = Attributes::NONE
+        .with(Attribute::Locked)
+        .with(Attribute::System);
+    assert_eq!(rt; boot.byte, 0x88);
 }
 
 // A block that is empty but for the entry in the last place but one: the name `OLD`, and these attributes.
 fn block_with(attributes: u8) -> [u8; BLOCK] {
+    let at = 26 * 37;
     let mut block = [0; BLOCK];
-    block[26 * 37] = b'O';
-    block[26 * 37 + 1] = b'L';
-    block[26 * 37 + 2] = b'D';
-    block[26 * 37 + 3] = 3;
-    block[26 * 37 + 4] = b'X';
-    block[26 * 37 + 12] = attributes;
+    block[at..at + 5].copy_from_slice(b"OLD\x03X");
+    block[at + 12] = attributes;
     block
 }
 
 #[test]
-fn kinds_go_by_number_and_bits(rt: HostRuntime) -> Result<(), Fail> {
+fn kinds_go_by_number_and_bits(rt: HostRuntime) {
+    let name = b"OLD".as_slice();
     // entry 37 of the first block, and 76, which is 37 of the second
     for number in [37, 76] {
-        for (attributes, left, deleted) in [
-            (0x00, false, false),
-            (0x10, false, false),
-            (0x14, false, true),
-            (0x01, true, false),
-            (0x05, true, false),
-            (0xfe, false, true),
+        for (attributes, kind) in [
+            (0x00, Kind::Live(name)),
+            (0x10, Kind::Live(name)),
+            (0x14, Kind::Deleted(name)),
+            (0x01, Kind::BlocksLeft(name)),
+            (0x05, Kind::BlocksLeft(name)),
+            (0xfe, Kind::Deleted(name)),
         ] {
-            let block = block_with(attributes);
-            let Some(kind) = kind_of(&block, number) else {
-                return Err(Fail::new("entries from 3 on have a kind"));
-            };
-            let (name, is_left, is_deleted) = match kind {
-                Kind::Volume(name) => (name, true, true),
-                Kind::Live(name) => (name, false, false),
-                Kind::Deleted(name) => (name, false, true),
-                Kind::BlocksLeft(name) => (name, true, false),
-            };
-            assert!(rt; name == b"OLD".as_slice());
-            assert_eq!(rt; is_left, left);
-            assert_eq!(rt; is_deleted, deleted);
+            assert_eq!(rt; kind_of(&block_with(attributes), number), Some(kind));
         }
     }
-    Ok(())
 }
 
 #[test]
-fn the_first_three_entries(rt: HostRuntime) -> Result<(), Fail> {
+fn the_first_three_entries(rt: HostRuntime) {
     let mut block = [b'A'; BLOCK];
     block[25] = 3;
-    assert!(rt; kind_of(&block, 1).is_none());
-    assert!(rt; kind_of(&block, 2).is_none());
-    let Some(Kind::Volume(name)) = kind_of(&block, 0) else {
-        return Err(Fail::new("entry 0 is the volume"));
-    };
-    assert!(rt; name == b"AAAAAAAAAAAA".as_slice());
+    assert_eq!(rt; kind_of(&block, 1), None);
+    assert_eq!(rt; kind_of(&block, 2), None);
+    assert_eq!(rt;
+        kind_of(&block, 0),
+        Some(Kind::Volume(b"AAAAAAAAAAAA".as_slice()))
+    );
     assert!(rt; Entry::from_block(&block, 0).bytes[25] == 3);
     assert!(rt; Entry::from_block(&block, 39).bytes[25] == 3);
     assert!(rt; Entry::from_block(&block, 1).bytes[25] == b'A');
-    Ok(())
 }

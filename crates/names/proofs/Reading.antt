@@ -1,46 +1,29 @@
--- The characters of a name, one step of reading on and at the end of it. Assumes nothing.
-use Rattle.std.proofs.Common.{◌≡◌, ℕ, ◌+◌, ◌-◌, ◌<◌, cond, List, [], ◌∷◌, ◌++◌, length, get_or, take, drop, sym, refl, ap, ◌∙◌, append_assoc, append-nil, arith}
-use Rattle.std.proofs.lemmas.List.{take_all, take_more, drop_more}
-use Rattle.std.proofs.lemmas.Bool.{ne_eqb, eq-eqb}
+-- Where the characters of a name end. Assumes nothing.
+use Rattle.std.proofs.Common.{◌≡◌, ℕ, suc, ◌+◌, ◌≤◌, Bool, true, false, cond, not, List, [], ◌∷◌, length, take, Some, None, Option, ◌==◌, refl, ap, ◌∙◌, arith, nat_lt}
+use Rattle.std.specs.List.{position_or_len}
+use Rattle.std.specs.Option.{unwrap_or}
+use Rattle.std.proofs.lemmas.List.Sums.{prefix_len-le-length}
+use Rattle.std.proofs.lemmas.Bool.Decides.{nat_tests}
 use Rattle.names.specs.Names.{characters}
 
--- a character that is no ETX is the first of the characters
-pub characters-more : (b : ℕ) (rest : List ℕ) → (b ≡ 3 → ⊥) → characters (b ∷ rest) ≡ b ∷ characters rest
-characters-more b rest ne = ap (λ t. cond t [] (b ∷ characters rest)) (ne_eqb b 3 ne)
+-- the place of the first ETX, or the length
+abbrev pub end_of : List ℕ → ℕ
+end_of xs = position_or_len (λ b. b == 3) xs
 
--- an ETX ends the name
-pub characters-end : (b : ℕ) (rest : List ℕ) → b ≡ 3 → characters (b ∷ rest) ≡ []
-characters-end b rest e = ap (λ t. cond t [] (b ∷ characters rest)) (eq-eqb b 3 e)
+step : (b : ℕ) (rest : List ℕ) (t : Bool) → characters rest ≡ take (end_of rest) rest
+    → cond t [] (b ∷ characters rest) ≡ take (cond (not t) (1 + end_of rest) 0) (b ∷ rest)
+step b rest true ih = refl
+step b rest false ih =
+    let e : suc (end_of rest) ≡ 1 + end_of rest = omega arith in
+    ap (λ l. b ∷ l) ih ∙ ap (λ n. take n (b ∷ rest)) e
 
--- what reading keeps: i bytes are passed, and left is what follows them
-abbrev pub Passed : List ℕ → ℕ → List ℕ → Type 0
-Passed xs i left = (left ≡ drop i xs) × (i + length left ≡ length xs) × (take i xs ++ characters left ≡ characters xs)
+pub up_to_end : (xs : List ℕ) → characters xs ≡ take (end_of xs) xs
+up_to_end [] = refl
+up_to_end (b ∷ rest) = step b rest (b == 3) (up_to_end rest)
 
-pub passed-more : (xs : List ℕ) (i n : ℕ) (left : List ℕ) → n ≡ length left → 0 < length left → (get_or left 0 0 ≡ 3 → ⊥) → Passed xs i left
-    → Passed xs (i + 1) (take (n - 1) (drop 1 left))
-passed-more xs i n [] e h ne p = absurd (omega arith)
-passed-more xs i n (b ∷ rest) e h ne p =
-    let whole : take (n - 1) rest ≡ rest = take_all (n - 1) rest (omega arith) in
-    let inside : i < length xs = omega (arith, p.1) in
-    let cut = drop_more xs i 0 inside in
-    let head : b ≡ get_or xs i 0 = ap (λ l. get_or l 0 0) (p.0 ∙ cut) in
-    let tail : rest ≡ drop (i + 1) xs = ap (λ l. drop 1 l) (p.0 ∙ cut) in
-    let grown : take (i + 1) xs ≡ take i xs ++ b ∷ [] = take_more xs i 0 inside ∙ ap (λ x. take i xs ++ x ∷ []) (sym head) in
-    rw whole (
-      tail,
-      omega (arith, p.1),
-      ap (λ l. l ++ characters rest) grown ∙ append_assoc (take i xs) (b ∷ []) (characters rest)
-          ∙ ap (λ l. take i xs ++ l) (sym (characters-more b rest ne)) ∙ p.2,
-    )
-
--- reading ends where nothing is left, or at an ETX
-pub passed-all : (xs : List ℕ) (i n : ℕ) (left : List ℕ) → n ≡ i → characters left ≡ [] → Passed xs i left → take n xs ≡ characters xs
-passed-all xs i n left e none p = rw e (sym (append-nil (take i xs)) ∙ ap (λ l. take i xs ++ l) (sym none) ∙ p.2)
-
-pub none_left : (left : List ℕ) → length left < 1 → characters left ≡ []
-none_left [] h = refl
-none_left (b ∷ rest) h = absurd (omega arith)
-
-pub etx-left : (left : List ℕ) → get_or left 0 0 ≡ 3 → characters left ≡ []
-etx-left [] e = refl
-etx-left (b ∷ rest) e = characters-end b rest e
+-- what a search for the first ETX finds, or else the length
+pub found : (xs : List ℕ) (at : Option ℕ) → at ≡ cond (nat_lt (end_of xs) (length xs)) (Some (end_of xs)) None → unwrap_or at (length xs) ≡ end_of xs
+found xs at e = rw e (pick (end_of xs) (length xs) (prefix_len-le-length _ xs))
+  where
+    pick : (n m : ℕ) → n ≤ m → unwrap_or (cond (nat_lt n m) (Some n) None) m ≡ n
+    pick n m h = grind (arith, nat_tests)

@@ -8,6 +8,7 @@
 --   fits_whole   a whole name fits an entry with this name field
 --   fits_stem    a stem fits an entry with this name field
 use Rattle.std.specs.Prelude.{ℕ, ◌-◌, Bool, true, cond, not, ◌&&◌, ◌||◌, List, [], ◌∷◌, ◌++◌, length, take, replicate, codes, ◌==◌, nat_le}
+use Rattle.std.specs.List.{list_all}
 use Rattle.std.specs.Str.{bytes_eq}
 
 abbrev pub characters : List ℕ → List ℕ
@@ -26,8 +27,7 @@ abbrev pub is_letter : ℕ → Bool
 is_letter b = (nat_le 65 b && nat_le b 90) || (nat_le 97 b && nat_le b 122)
 
 abbrev pub all_printable : List ℕ → Bool
-all_printable [] = true
-all_printable (b ∷ rest) = printable b && all_printable rest
+all_printable cs = list_all printable cs
 
 -- The last character, if there is one, is a letter.
 abbrev pub last_is_letter : List ℕ → Bool

@@ -6,29 +6,15 @@ ghost use Rattle.names.specs.Names.{characters as characters_of, same_name};
 // The byte that ends a name before the end of its field.
 pub const ETX: u8 = 3;
 
-// How many characters a name as given has.
-fn count_characters(given: &[u8]) -> usize
-    ensures within { result ≤ length given.now }
-    ensures value { take result given.now ≡ characters_of given.now }
-{
-    let mut count = 0;
-    let mut left = given;
-    while let [first, rest @ ..] = left {
-        if *first == ETX {
-            break;
-        }
-        count += 1;
-        left = rest;
-    }
-    count
-}
-
 // The characters of a name as given: the bytes before its first ETX, or all of them.
 pub fn characters(given: &[u8]) -> &[u8]
     ensures { result.now ≡ characters_of given.now }
 {
-    let count = count_characters(given);
-    &given[0..count]
+    let end = given
+        .iter()
+        .position(|byte| *byte == ETX)
+        .unwrap_or(given.len());
+    &given[..end]
 }
 
 // Whether two byte strings are the same, byte for byte.

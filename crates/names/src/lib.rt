@@ -3,13 +3,9 @@
 #![tactic(auto)]
 
 mod given;
+mod name;
 mod rules;
-mod stem;
-mod volume;
-mod whole;
 
 pub use given::{ETX, characters, same, same_bytes};
-pub use rules::FIELD;
-pub use stem::Stem;
-pub use volume::VolumeName;
-pub use whole::WholeName;
+pub use name::{FIELD, Name, Stem, VolumeName, WholeName};
+pub use rules::{Rule, StemRule, VolumeRule, WholeRule};

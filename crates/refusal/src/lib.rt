@@ -36,8 +36,7 @@ impl Refusal {
             Refusal::OutOfRange => 17,
             Refusal::BadName => 14,
             Refusal::NoSuchFile => 5,
-            Refusal::NoPack => 24,
-            Refusal::BrokenLayout { .. } => 24,
+            Refusal::NoPack | Refusal::BrokenLayout { .. } => 24,
             Refusal::BadBlock { .. } => 22,
             Refusal::WriteProtected { .. } => 32,
         }
@@ -49,8 +48,9 @@ impl Refusal {
     {
         match self {
             Refusal::BrokenLayout { .. } => 1,
-            Refusal::BadBlock { depth, .. } => 2 + u16::from(depth),
-            Refusal::WriteProtected { depth } => 2 + u16::from(depth),
+            Refusal::BadBlock { depth, .. } | Refusal::WriteProtected { depth } => {
+                2 + u16::from(depth)
+            }
             _ => 0,
         }
     }

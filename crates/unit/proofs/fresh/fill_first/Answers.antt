@@ -13,7 +13,7 @@ returns c =
     let shape = c.args.shape.now in
     let name = shape.name.field in
     four (volume_entry name shape.directory shape.blocks date) (boot_entry date) (directory_entry shape.directory date) (left_entry shape.directory shape.blocks date)
-    (volume-long name shape.directory shape.blocks date shape.name.volume) (boot-long date) (directory-long shape.directory date) (left-long shape.directory shape.blocks date)
+    (volume-long name shape.directory shape.blocks date shape.name.kept) (boot-long date) (directory-long shape.directory date) (left-long shape.directory shape.blocks date)
     c.fill.new.self c.put_in.new.block c.put_in-2.new.block c.put_in-3.new.block c.put_in-4.new.block
     (c.fill.ensures.after (λ y h. h) ∙ ap (λ n. replicate n 0) c.told-work)
     (c.put_in.ensures ∙ ap (stored c.fill.new.self 0) c.volume_entry.ensures)

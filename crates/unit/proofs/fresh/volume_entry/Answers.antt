@@ -11,6 +11,6 @@ pub returns : goal.returns
 returns c =
     let shape = c.args.shape.now in
     let field = c.field.ensures ∙ shape.name.padded in
-    volume-built c.field.result (ap length field ∙ field-long shape.name.field shape.name.volume) (128 + shape.directory) c.args.date c.from.result _ _ _
+    volume-built c.field.result (ap length field ∙ field-long shape.name.field shape.name.kept) (128 + shape.directory) c.args.date c.from.result _ _ _
     c.entry_of-entry.ensures c.set_check_bytes.ensures c.set_size.ensures
     ∙ ap₂ (λ front n. front ++ ((128 + shape.directory) ∷ (check_bytes ++ (long_bytes n ++ (0 ∷ 0 ∷ dated (option_map stamp_of_date c.args.date)))))) field c.from.ensures
