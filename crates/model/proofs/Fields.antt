@@ -1,5 +1,5 @@
 -- The entries of a fresh pack: how long they are, and what their fields hold. Assumes nothing.
-use Rattle.std.proofs.Common.{◌≡◌, ℕ, ◌+◌, ◌-◌, ◌*◌, ◌/◌, ◌%◌, ◌≤◌, true, leb, List, ◌∷◌, ◌++◌, length, get_or, take, drop, replicate, Some, None, Option, sym, refl, ap, ◌∙◌, arith}
+use Rattle.std.proofs.Common.{◌≡◌, ℕ, ◌+◌, ◌-◌, ◌*◌, ◌/◌, ◌%◌, ◌≤◌, true, leb, List, ◌∷◌, ◌++◌, length, get_or, take, drop, replicate, Some, None, Option, refl, ap, ◌∙◌, arith}
 use Rattle.std.proofs.Math.Seq.{drop-append-add}
 use Rattle.std.proofs.lemmas.List.{get_or-append_right, length-append, length-replicate}
 use Rattle.std.proofs.lemmas.Bool.{and_parts, leb-true}

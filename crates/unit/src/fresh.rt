@@ -6,7 +6,7 @@ ghost use Rattle.names.specs.Names.{is_volume, name_field};
 ghost use Rattle.std.specs.Option.{option_map};
 
 use crate::shape::Shape;
-use entry::{Attributes, BLOCK, Date, ENTRY, Entry};
+use entry::{Attribute, Attributes, BLOCK, Date, ENTRY, Entry};
 use names::{FIELD, VolumeName};
 
 // The names of the entries that are no files.
@@ -55,8 +55,10 @@ fn volume_entry(shape: &Shape, date: Option<Date>) -> Entry
 fn boot_entry(date: Option<Date>) -> Entry
     ensures { result.bytes ≡ boot_entry (option_map stamp_of_date date) }
 {
-    // locked, and of the system
-    let mut entry = entry_of(&field_of(BOOT), Attributes { byte: 0x88 }, date);
+    let attributes = Attributes::NONE
+        .with(Attribute::Locked)
+        .with(Attribute::System);
+    let mut entry = entry_of(&field_of(BOOT), attributes, date);
     entry.set_room(1);
     entry.set_used(1);
     entry.set_last(FULL);
@@ -67,8 +69,11 @@ fn boot_entry(date: Option<Date>) -> Entry
 fn directory_entry(shape: &Shape, date: Option<Date>) -> Entry
     ensures { result.bytes ≡ directory_entry shape.now.directory (option_map stamp_of_date date) }
 {
-    // locked, write-protected, and of the system
-    let mut entry = entry_of(&field_of(DIRECTORY), Attributes { byte: 0xc8 }, date);
+    let attributes = Attributes::NONE
+        .with(Attribute::Locked)
+        .with(Attribute::WriteProtected)
+        .with(Attribute::System);
+    let mut entry = entry_of(&field_of(DIRECTORY), attributes, date);
     entry.set_first_block(1);
     entry.set_room(u16::from(shape.directory));
     entry.set_used(u16::from(shape.directory));
@@ -80,7 +85,8 @@ fn directory_entry(shape: &Shape, date: Option<Date>) -> Entry
 fn left_entry(shape: &Shape, date: Option<Date>) -> Entry
     ensures { result.bytes ≡ left_entry shape.now.directory shape.now.blocks (option_map stamp_of_date date) }
 {
-    let mut entry = entry_of(&field_of(BLOCKS_LEFT), Attributes { byte: 0x01 }, date);
+    let attributes = Attributes::NONE.with(Attribute::BlocksLeft);
+    let mut entry = entry_of(&field_of(BLOCKS_LEFT), attributes, date);
     entry.set_first_block(1 + u32::from(shape.directory));
     entry.set_room(shape.left());
     entry
