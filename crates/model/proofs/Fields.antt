@@ -1,6 +1,7 @@
 -- The entries of a fresh pack: how long they are, and what their fields hold. Assumes nothing.
-use Rattle.std.proofs.Common.{◌≡◌, ℕ, ◌+◌, ◌-◌, ◌*◌, ◌/◌, ◌%◌, ◌≤◌, true, leb, List, ◌∷◌, ◌++◌, length, get_or, take, drop, replicate, Some, None, Option, sym, refl, ap, ◌∙◌, arith}
-use Rattle.std.proofs.lemmas.List.{drop_at, drop-drop, get_or-append_right, length-append, length-replicate, take_at}
+use Rattle.std.proofs.Common.{◌≡◌, ℕ, ◌+◌, ◌-◌, ◌*◌, ◌/◌, ◌%◌, ◌≤◌, true, leb, List, ◌∷◌, ◌++◌, length, get_or, take, drop, replicate, Some, None, Option, refl, ap, ◌∙◌, arith}
+use Rattle.std.proofs.Math.Seq.{drop-append-add}
+use Rattle.std.proofs.lemmas.List.{get_or-append_right, length-append, length-replicate}
 use Rattle.std.proofs.lemmas.Bool.{and_parts, leb-true}
 use Rattle.names.specs.Names.{all_printable, characters, is_volume, name_field}
 use Rattle.entry.specs.Fields.{check_bytes, check_of, directory_of, first_of, long_bytes, room_of, size_of}
@@ -24,36 +25,28 @@ word-is n h = omega arith
 long-is : (n : ℕ) → n ≤ 65535 → n % 256 + n / 256 % 256 * 256 + n / 65536 % 256 * 65536 + n / 16777216 % 256 * 16777216 ≡ n
 long-is n h = omega arith
 
-sum4 : {a a' b b' c c' d d' : ℕ} → a ≡ a' → b ≡ b' → c ≡ c' → d ≡ d' → a + b * 256 + c * 65536 + d * 16777216 ≡ a' + b' * 256 + c' * 65536 + d' * 16777216
-sum4 p q r s = λ i. p i + q i * 256 + r i * 65536 + s i * 16777216
-
 pub past : (xs ys : List ℕ) (m n k : ℕ) → length xs ≡ m → n ≡ m + k → drop n (xs ++ ys) ≡ drop k ys
-past xs ys m n k long is = ap (λ j. drop j (xs ++ ys)) is ∙ sym (drop-drop k m (xs ++ ys)) ∙ ap (drop k) (drop_at xs ys m long)
+past xs ys m n k long is = ap (λ j. drop j (xs ++ ys)) (let z : n ≡ length xs + k = omega arith in z) ∙ drop-append-add xs ys k
 
-pub front : (xs ys : List ℕ) (m : ℕ) → length xs ≡ m → take m (xs ++ ys) ≡ xs
-front xs ys m long = take_at xs ys m long
-
--- what stands behind the name field
-behind : (field rest : List ℕ) (i : ℕ) → length field ≡ 12 → 12 ≤ i → get_or (field ++ rest) i 0 ≡ get_or rest (i - 12) 0
-behind field rest i long h = get_or-append_right field rest 12 i 0 long h
+-- the volume's entry
+pub volume-long : (name : List ℕ) (directory blocks : ℕ) (date : Option Stamp) → is_volume name ≡ true → length (volume_entry name directory blocks date) ≡ 26
+volume-long name directory blocks date keeps =
+    length-append (name_field name) ((128 + directory) ∷ (check_bytes ++ (long_bytes blocks ++ (0 ∷ 0 ∷ dated date)))) ∙ omega (arith, field-long name keeps, dated-long date)
 
 module _ (name : List ℕ) (directory blocks : ℕ) (date : Option Stamp) (keeps : is_volume name ≡ true) (few : directory ≤ 127) (small : blocks ≤ 65535) where
   abbrev rest : List ℕ
   rest = (128 + directory) ∷ (check_bytes ++ (long_bytes blocks ++ (0 ∷ 0 ∷ dated date)))
 
-  pub volume-long : length (volume_entry name directory blocks date) ≡ 26
-  volume-long = length-append (name_field name) rest ∙ omega (arith, field-long name keeps, dated-long date)
-
   pub volume-check : check_of (volume_entry name directory blocks date) ≡ check_bytes
   volume-check = ap (take 4) (past (name_field name) rest 12 13 1 (field-long name keeps) (omega arith))
 
   pub volume-directory : directory_of (volume_entry name directory blocks date) ≡ directory
-  volume-directory = ap (λ a. a % 128) (behind (name_field name) rest 12 (field-long name keeps) (omega arith)) ∙ (let z : (128 + directory) % 128 ≡ directory = omega arith in z)
+  volume-directory = ap (λ a. a % 128) (get_or-append_right (name_field name) rest 12 12 0 (field-long name keeps) (omega arith)) ∙ (let z : (128 + directory) % 128 ≡ directory = omega arith in z)
 
   pub volume-size : size_of (volume_entry name directory blocks date) ≡ blocks
   volume-size =
-      let at : (i : ℕ) → 12 ≤ i → get_or (name_field name ++ rest) i 0 ≡ get_or rest (i - 12) 0 = λ i h. behind (name_field name) rest i (field-long name keeps) h in
-      sum4 (at 17 (omega arith)) (at 18 (omega arith)) (at 19 (omega arith)) (at 20 (omega arith)) ∙ long-is blocks small
+      let at : (i : ℕ) → 12 ≤ i → get_or (name_field name ++ rest) i 0 ≡ get_or rest (i - 12) 0 = λ i h. get_or-append_right (name_field name) rest 12 i 0 (field-long name keeps) h in
+      omega (arith, at 17 (omega arith), at 18 (omega arith), at 19 (omega arith), at 20 (omega arith), long-is blocks small)
 
 pub boot-long : (date : Option Stamp) → length (boot_entry date) ≡ 26
 boot-long date = omega (arith, dated-long date)

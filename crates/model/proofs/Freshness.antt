@@ -1,6 +1,6 @@
 -- A device after a granted initialise: it follows the layout, and the pack on it is the fresh one. Assumes nothing.
 use Rattle.std.proofs.Common.{◌≡◌, ℕ, zero, suc, ◌+◌, ◌-◌, ◌<◌, ◌≤◌, true, cond, eqb, ltb, ◌⊎◌, List, [], length, get_or, take, set, replicate, Some, None, Ok, Option, Result, sym, refl, ap, ◌∙◌, subst, inl, inr, arith}
-use Rattle.std.proofs.lemmas.List.{get_or-set_other, get_or-set_same, length-set}
+use Rattle.std.proofs.lemmas.List.{get_or-set_other, get_or-set_same, length-set, take_at}
 use Rattle.std.proofs.lemmas.Bool.{and_from, cases_eq, cases_lt, lt-ltb}
 use Rattle.std.specs.Option.{option_or}
 use Rattle.refusal.specs.declared.Refusal.{Refusal}
@@ -21,7 +21,7 @@ use Rattle.model.specs.Models.{PackModel, pack_found, pack_on, pack_read}
 use Rattle.model.specs.Runs.{Accounts}
 use Rattle.model.specs.Steps.{first_bad}
 use Rattle.model.proofs.Accounting.{accounts}
-use Rattle.model.proofs.Fields.{boot-first, boot-long, boot-room, directory-first, directory-long, directory-room, front, left-first, left-long, left-marked, left-room, past, volume-check, volume-directory, volume-long, volume-size}
+use Rattle.model.proofs.Fields.{boot-first, boot-long, boot-room, directory-first, directory-long, directory-room, left-first, left-long, left-marked, left-room, past, volume-check, volume-directory, volume-long, volume-size}
 
 pub zeroed-long : (n : ℕ) (blocks : List (List ℕ)) (b : ℕ) → length (zeroed blocks b n) ≡ length blocks
 zeroed-long zero blocks b = refl
@@ -36,7 +36,7 @@ sound-read d (suc n) b h fits k low high =
   where
     split : (o p : Option Fault) → option_or o p ≡ None → (o ≡ None) × (p ≡ None)
     split None p h = (refl, h)
-    split (Some f) p h = absurd (let z : ◌≡◌ {A = ℕ} 0 1 = cc in omega arith)
+    split (Some f) p h = cc
 
     by : (k ≡ b) ⊎ (k ≡ b → ⊥) → mark_fault (mark_at d b) ≡ None → (b + 1 ≤ k → read_fault d k 1024 ≡ None) → read_fault d k 1024 ≡ None
     by (inl q) here later =
@@ -70,25 +70,25 @@ module _ (d : Device) (name : List ℕ) (directory blocks : ℕ) (date : Option 
       (omega (arith, zeroed-long (directory - 1) d.blocks 2))
 
   at-volume : entry_at d' 0 ≡ volume
-  at-volume = ap (λ b. entry_in b 0) first-is ∙ front volume _ 26 (volume-long name directory blocks date keeps few (omega arith))
+  at-volume = ap (λ b. entry_in b 0) first-is ∙ take_at volume _ 26 (volume-long name directory blocks date keeps)
 
   at-boot : entry_at d' 1 ≡ boot
   at-boot =
-      ap (λ b. entry_in b 1) first-is ∙ ap (take 26) (past volume _ 26 26 0 (volume-long name directory blocks date keeps few (omega arith)) refl)
-      ∙ front boot _ 26 (boot-long date)
+      ap (λ b. entry_in b 1) first-is ∙ ap (take 26) (past volume _ 26 26 0 (volume-long name directory blocks date keeps) refl)
+      ∙ take_at boot _ 26 (boot-long date)
 
   at_table : entry_at d' 2 ≡ table
   at_table =
       ap (λ b. entry_in b 2) first-is
-      ∙ ap (take 26) (past volume _ 26 52 26 (volume-long name directory blocks date keeps few (omega arith)) refl ∙ past boot _ 26 26 0 (boot-long date) refl)
-      ∙ front table _ 26 (directory-long directory date)
+      ∙ ap (take 26) (past volume _ 26 52 26 (volume-long name directory blocks date keeps) refl ∙ past boot _ 26 26 0 (boot-long date) refl)
+      ∙ take_at table _ 26 (directory-long directory date)
 
   at_left : entry_at d' 3 ≡ left
   at_left =
       ap (λ b. entry_in b 3) first-is
-      ∙ ap (take 26) (past volume _ 26 78 52 (volume-long name directory blocks date keeps few (omega arith)) refl ∙ past boot _ 26 52 26 (boot-long date) refl
+      ∙ ap (take 26) (past volume _ 26 78 52 (volume-long name directory blocks date keeps) refl ∙ past boot _ 26 52 26 (boot-long date) refl
       ∙ past table _ 26 26 0 (directory-long directory date) refl)
-      ∙ front left _ 26 (left-long directory blocks date)
+      ∙ take_at left _ 26 (left-long directory blocks date)
 
   pub directory-is : directory_blocks d' ≡ directory
   directory-is = ap directory_of at-volume ∙ volume-directory name directory blocks date keeps few (omega arith)

@@ -1,5 +1,5 @@
 -- What the stages of a call have tested where none of them refuses. Assumes nothing.
-use Rattle.std.proofs.Common.{◌≡◌, ℕ, ◌+◌, ◌≤◌, Bool, true, false, cond, ◌&&◌, eqb, leb, List, Some, None, Option, refl, arith}
+use Rattle.std.proofs.Common.{◌≡◌, ℕ, ◌+◌, ◌≤◌, Bool, true, false, cond, ◌&&◌, eqb, leb, List, Some, None, Option, refl}
 use Rattle.std.proofs.lemmas.Bool.{and_parts, eqb-true, leb-true}
 use Rattle.std.specs.Option.{option_map, option_or}
 use Rattle.refusal.specs.declared.Refusal.{Refusal}
@@ -9,21 +9,18 @@ use Rattle.blocks.specs.declared.faults.Fault.{Fault}
 use Rattle.blocks.specs.declared.faults.Tab.{Tab}
 use Rattle.blocks.specs.declared.faults.Tab.TheVariants.{Off, On}
 use Rattle.names.specs.Names.{is_volume}
-use Rattle.model.specs.Steps.{bad_stage, first_bad, name_stage, shape_stage, tab_stage, work_stage}
+use Rattle.model.specs.Models.{model_of}
+use Rattle.model.specs.Steps.{bad_stage, first_bad, initialise_refusal, name_stage, shape_stage, tab_stage, work_stage}
+use Rattle.model.specs.declared.state.State.{State}
 
 pub full : (work : ℕ) → work_stage work ≡ None → work ≡ 1024
 full work h = go (eqb work 1024) refl h
   where
     go : (t : Bool) → eqb work 1024 ≡ t → cond t None (Some OutOfRange) ≡ None → work ≡ 1024
     go true t q = eqb-true work 1024 t
-    go false t q = absurd (let z : ◌≡◌ {A = ℕ} 0 1 = cc in omega arith)
+    go false t q = cc
 
--- why initialise is refused on a device
-abbrev pub initialise_refusal_on : Device → ℕ → List ℕ → ℕ → ℕ → Option Refusal
-initialise_refusal_on d work name directory blocks =
-    option_or (work_stage work) (option_or (shape_stage (size_of d) directory blocks) (option_or (name_stage (is_volume name)) (option_or (tab_stage d.tab) (bad_stage d.marks directory))))
-
--- what the stages have tested
+-- what the stages of initialise have tested
 pub record Facts (d : Device) (work : ℕ) (name : List ℕ) (directory blocks : ℕ) : Type 0 where
   pub full : work ≡ 1024
   pub some : 1 ≤ directory
@@ -36,22 +33,22 @@ pub record Facts (d : Device) (work : ℕ) (name : List ℕ) (directory blocks :
 
 neither : (o p : Option Refusal) → option_or o p ≡ None → (o ≡ None) × (p ≡ None)
 neither None p h = (refl, h)
-neither (Some x) p h = absurd (let z : ◌≡◌ {A = ℕ} 0 1 = cc in omega arith)
+neither (Some x) p h = cc
 
 passes : (t : Bool) (r : Refusal) → cond t None (Some r) ≡ None → t ≡ true
 passes true r h = refl
-passes false r h = absurd (let z : ◌≡◌ {A = ℕ} 0 1 = cc in omega arith)
+passes false r h = cc
 
 tab-off : (t : Tab) → tab_stage t ≡ None → t ≡ Off
 tab-off Off h = refl
-tab-off (On depth) h = absurd (let z : ◌≡◌ {A = ℕ} 0 1 = cc in omega arith)
+tab-off (On depth) h = cc
 
 all_sound : (o : Option Fault) → option_map refusal_of o ≡ None → o ≡ None
 all_sound None h = refl
-all_sound (Some fault) h = absurd (let z : ◌≡◌ {A = ℕ} 0 1 = cc in omega arith)
+all_sound (Some fault) h = cc
 
-pub facts : (d : Device) (work : ℕ) (name : List ℕ) (directory blocks : ℕ) → initialise_refusal_on d work name directory blocks ≡ None → Facts d work name directory blocks
-facts d work name directory blocks none =
+pub facts : (st : State) (d : Device) (work : ℕ) (name : List ℕ) (directory blocks : ℕ) → initialise_refusal (model_of st d) work name directory blocks ≡ None → Facts d work name directory blocks
+facts st d work name directory blocks none =
     let p = neither (work_stage work) _ none in
     let q = neither (shape_stage (size_of d) directory blocks) _ p.1 in
     let r = neither (name_stage (is_volume name)) _ q.1 in

@@ -52,7 +52,7 @@ dated-keeps m d o year month day s = go (is_day year month day)
 taken-keeps : (m : Model) (d : Device) (o : Origin) (w : Option Refusal) (r : Result PackModel Refusal) → m.pack ≡ r → Standing m d o → Standing (unless w m [] (taken_up m r)).model d o
 taken-keeps m d o (Some refusal) r is s = s
 taken-keeps m d o None (Ok p) is s = record { p = s.p; up = refl; pack = sym is ∙ s.pack; accounts = s.accounts }
-taken-keeps m d o None (Err refusal) is s = absurd (let never : Ok s.p ≡ Err refusal = sym s.pack ∙ is in let z : ◌≡◌ {A = ℕ} 0 1 = cc in omega arith)
+taken-keeps m d o None (Err refusal) is s = let never : Ok s.p ≡ Err refusal = sym s.pack ∙ is in cc
 
 -- a granted initialise begins anew
 module _ (st : State) (d : Device) (small : size_of d ≤ 65535) (work : ℕ) (name : List ℕ) (directory blocks : ℕ) where
@@ -64,9 +64,9 @@ module _ (st : State) (d : Device) (small : size_of d ≤ 65535) (work : ℕ) (n
 
   made : (o : Option Refusal) → initialise_refusal (model_of st d) work name directory blocks ≡ o → is_err (unless o (model_of st d) [] (done_step (up_model (model_of st d) (fresh_pack name directory blocks (model_of st d).date)))).reply.answer ≡ false
       → Standing (unless o (model_of st d) [] (done_step (up_model (model_of st d) (fresh_pack name directory blocks (model_of st d).date)))).model (initialised d name directory blocks (model_of st d).date) (record { device = d; rooms = 0; asked = 0 })
-  made (Some refusal) is granted = absurd (true≢false granted)
+  made (Some refusal) is granted = cc
   made None is granted =
-      let f = facts d work name directory blocks is in
+      let f = facts st d work name directory blocks is in
       record {
         p = fresh_pack name directory blocks (model_of st d).date;
         up = refl;
@@ -86,7 +86,7 @@ module _ (st : State) (d : Device) (small : size_of d ≤ 65535) (work : ℕ) (n
 
 refused-keeps : (m effect : Model) (o : Option Refusal) → is_err (unless o m [] (done_step effect)).reply.answer ≡ true → (unless o m [] (done_step effect)).model ≡ m
 refused-keeps m effect (Some refusal) h = refl
-refused-keeps m effect None h = absurd (true≢false (sym h))
+refused-keeps m effect None h = cc
 
 module _ (st : State) (d : Device) (small : size_of d ≤ 65535) where
   -- each call
@@ -106,7 +106,7 @@ module _ (st : State) (d : Device) (small : size_of d ≤ 65535) where
   -- a granted take up
   taken-stands : (j : Result Pack Refusal) → judged d 1024 ≡ j → is_err (taken_up (model_of st d) (pack_found d j)).reply.answer ≡ false
       → Standing (taken_up (model_of st d) (pack_found d j)).model d (counted (record { device = d; rooms = rooms (files_of (pack_found d j)); asked = 0 }) 0)
-  taken-stands (Err refusal) is granted = absurd (true≢false granted)
+  taken-stands (Err refusal) is granted = cc
   taken-stands (Ok pack) is granted =
       let g = (judgement-law d 1024 (judged d 1024) refl).granted pack is in
       record {
@@ -119,15 +119,15 @@ module _ (st : State) (d : Device) (small : size_of d ≤ 65535) where
 
   taken-first : (w : Option Refusal) → is_err (unless w (model_of st d) [] (taken_up (model_of st d) (pack_on d))).reply.answer ≡ false
       → Standing (unless w (model_of st d) [] (taken_up (model_of st d) (pack_on d))).model d (counted (first_origin (model_of st d) d) 0)
-  taken-first (Some refusal) granted = absurd (true≢false granted)
+  taken-first (Some refusal) granted = cc
   taken-first None granted = taken-stands (judged d 1024) refl granted
 
   -- a granted first call
   pub first-stands : (request : Request) → opens request ≡ true → is_refused (model_of st d) request ≡ false
       → Standing (step (model_of st d) request).model (device_after (model_of st d) d request) (origin_after (model_of st d) d (first_origin (model_of st d) d) request)
-  first-stands (set_date year month day) h granted = absurd (true≢false (sym h))
+  first-stands (set_date year month day) h granted = cc
   first-stands (initialise work name directory blocks) h granted =
       initialise-stands st d small work name directory blocks (first_origin (model_of st d) d) (is_refused (model_of st d) (initialise work name directory blocks)) refl (λ t. absurd (true≢false (sym t ∙ granted)))
   first-stands (take_up work) h granted = taken-first (work_stage work) granted
-  first-stands (find work kind name buffer) h granted = absurd (true≢false (sym h))
-  first-stands (show work entry buffer) h granted = absurd (true≢false (sym h))
+  first-stands (find work kind name buffer) h granted = cc
+  first-stands (show work entry buffer) h granted = cc

@@ -1,8 +1,10 @@
 -- A pack as it is made by initialise. Assumes nothing.
 --   dated                        the three bytes of a date, or three zeros
+--   begun                        the 26 bytes of an entry of which only name, attributes and date are known
 --   entry_bytes                  the 26 bytes of an entry, from its fields
 --   volume_entry .. left_entry   the four entries of a fresh pack
 --   fresh_pack                   the pack
+--   fresh_known                  what a unit knows of it
 --   first_block                  block 1, as it is written
 --   initialised                  the device after a granted initialise
 use Rattle.std.specs.Prelude.{ℕ, zero, suc, ◌+◌, ◌-◌, List, [], ◌∷◌, ◌++◌, replicate, Some, None, codes, Option, slice_set}
@@ -10,11 +12,16 @@ use Rattle.blocks.specs.Devices.{Device}
 use Rattle.names.specs.Names.{name_field}
 use Rattle.entry.specs.Fields.{check_bytes, long_bytes, word_bytes}
 use Rattle.entry.specs.declared.stamp.Stamp.{Stamp}
+use Rattle.directory.specs.declared.judgement.Pack.{Pack}
 use Rattle.model.specs.Models.{PackModel}
 
 abbrev pub dated : Option Stamp → List ℕ
 dated None = 0 ∷ 0 ∷ 0 ∷ []
 dated (Some day) = (day.year - 1900) ∷ day.month ∷ day.day ∷ []
+
+-- A name field, attributes and a date, all else zeros.
+abbrev pub begun : List ℕ → ℕ → Option Stamp → List ℕ
+begun field attributes date = field ++ (attributes ∷ (replicate 10 0 ++ dated date))
 
 -- Name, attributes, first block, room, used, last, date.
 abbrev pub entry_bytes : List ℕ → ℕ → ℕ → ℕ → ℕ → ℕ → Option Stamp → List ℕ
@@ -46,6 +53,10 @@ fresh_pack name directory blocks date = record {
   files = [];
   left = left_entry directory blocks date;
 }
+
+-- What a unit knows of a pack that was just made.
+abbrev pub fresh_known : ℕ → ℕ → Pack
+fresh_known directory blocks = record { blocks = blocks; directory = directory; left = 3; free = blocks - (1 + directory) }
 
 -- The four entries, and zeros up to the end of the block.
 abbrev pub first_block : List ℕ → ℕ → ℕ → Option Stamp → List ℕ

@@ -32,7 +32,7 @@ pub struct OpenFile {
 }
 
 // The open files by their numbers.
-#[derive(Clone, Copy)]
+#[derive(Clone, Copy, Default)]
 pub struct OpenTable {
     pub records: [Option<OpenFile>; OPEN_FILES],
 }
@@ -42,14 +42,12 @@ impl OpenTable {
     pub fn free() -> OpenTable
         ensures { result.records ≡ free_table }
     {
-        OpenTable {
-            records: [None; OPEN_FILES],
-        }
+        OpenTable::default()
     }
 }
 
 // The pack that is up, the date that is set, and the open files.
-#[derive(Clone, Copy)]
+#[derive(Clone, Copy, Default)]
 pub struct State {
     pub pack: Option<Pack>,
     pub date: Option<Date>,
@@ -61,10 +59,6 @@ impl State {
     pub fn new() -> State
         ensures { result ≡ empty_state }
     {
-        State {
-            pack: None,
-            date: None,
-            table: OpenTable::free(),
-        }
+        State::default()
     }
 }

@@ -1,5 +1,5 @@
 -- A run, one call on and at its end. Assumes nothing.
-use Rattle.std.proofs.Common.{◌≡◌, ℕ, ◌≤◌, true, false, ◌⊎◌, List, [], ◌∷◌, ◌++◌, length, is_some, is_err, Some, None, Ok, Err, Option, Result, sym, refl, ap, ◌∙◌, subst, ap₂, inl, inr, append_assoc, append-nil, arith, MatchResult}
+use Rattle.std.proofs.Common.{◌≡◌, ◌≤◌, true, false, ◌⊎◌, List, [], ◌∷◌, ◌++◌, is_some, is_err, Some, None, Option, sym, refl, ap, ◌∙◌, subst, ap₂, inl, inr, append_assoc, append-nil}
 use Rattle.std.proofs.lemmas.Bool.{true≢false}
 use Rattle.blocks.specs.Devices.{Device, size_of}
 use Rattle.directory.specs.Judgements.{judged}
@@ -73,16 +73,6 @@ pub record Unbegun (st₀ : State) (d₀ : Device) (all left : List Request) (ma
 pub record Sofar (st₀ : State) (d₀ : Device) (all left : List Request) (made : List Reply) (st : State) (d : Device) : Type 0 where
   pub model : (m : Model) → Represents m st₀ d₀ → FromModel st₀ d₀ all left made st d m
   pub first : Begins st₀ d₀ all → Unbegun st₀ d₀ all left made st d ⊎ FromFirst st₀ d₀ all left made st d
-
-pub starts : (st : State) (d : Device) (all : List Request) (made : List Reply) → made ≡ [] → Sofar st d all all made st d
-starts st d all made none = record {
-  model = λ m rep. record {
-    here = m;
-    along = record { represents = rep; replies = ap (λ r. r ++ answers m all) none; model = refl; device = refl };
-    tally = λ o s. record { o = o; standing = s; same = refl };
-  };
-  first = λ b. inl (record { all_left = refl; none_made = none; same-state = refl; same-device = refl });
-}
 
 module _ (st₀ : State) (d₀ : Device) (all : List Request) (made : List Reply) (st st' : State) (d d' : Device) (request : Request) (rest : List Request) (reply : Reply) where
   -- the first call of a list that begins with a granted one
@@ -160,7 +150,7 @@ module _ (st₀ : State) (d₀ : Device) (all left : List Request) (made : List 
       by (Some pack) q = ((judgement-law d 1024 (judged d 1024) refl).granted pack (rep.judged pack q)).follows
 
   ends-first : Begins st₀ d₀ all → Unbegun st₀ d₀ all left made st d ⊎ FromFirst st₀ d₀ all left made st d → FromFirst st₀ d₀ all left made st d
-  ends-first b (inl u) = absurd (let never : ◌≡◌ {A = List Request} [] (b.first ∷ b.rest) = sym none ∙ u.all_left ∙ b.is in let z : ◌≡◌ {A = ℕ} 0 1 = cc in omega arith)
+  ends-first b (inl u) = let never : ◌≡◌ {A = List Request} [] (b.first ∷ b.rest) = sym none ∙ u.all_left ∙ b.is in cc
   ends-first b (inr f) = f
 
   pub run-law : Sofar st₀ d₀ all left made st d → RunLaw st₀ d₀ all made st d
@@ -206,11 +196,3 @@ sofar-next st₀ d₀ all left made made' st st' d d' request rest reply small i
 
 pub law-of : (st₀ : State) (d₀ : Device) (all all' left : List Request) (made : List Reply) (st : State) (d : Device) → left ≡ [] → all ≡ all' → Sofar st₀ d₀ all left made st d → RunLaw st₀ d₀ all' made st d
 law-of st₀ d₀ all all' left made st d none is s = subst (λ x. RunLaw st₀ d₀ x made st d) is (run-law st₀ d₀ all left made st d none s)
-
-pub no_items : {X : Type 0} (xs : List X) → length xs ≡ 0 → xs ≡ []
-no_items [] h = refl
-no_items (x ∷ xs) h = absurd (omega arith)
-
-pub err-cases : {T E Q : Type 0} (P : T → Type 0) (r : Result T E) (e : E) → r ≡ Err e → Q → MatchResult r P (λ _. Q)
-err-cases P (Ok x) e h q = absurd (let z : ◌≡◌ {A = ℕ} 0 1 = cc in omega arith)
-err-cases P (Err x) e h q = q

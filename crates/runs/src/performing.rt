@@ -14,12 +14,8 @@ use unit::PackUnit;
 fn done(heap: Global, answer: Result<(), Refusal>) -> Reply
     ensures { told result ≡ done_reply answer }
 {
-    let answer = match answer {
-        Ok(()) => Ok(None),
-        Err(refusal) => Err(refusal),
-    };
     Reply {
-        answer,
+        answer: answer.map(|()| None),
         buffer: Vec::new(heap),
     }
 }
@@ -28,11 +24,10 @@ fn done(heap: Global, answer: Result<(), Refusal>) -> Reply
 fn numbered(answer: Result<u32, Refusal>, buffer: Vec<u8>) -> Reply
     ensures { told result ≡ number_reply answer buffer.items }
 {
-    let answer = match answer {
-        Ok(number) => Ok(Some(number)),
-        Err(refusal) => Err(refusal),
-    };
-    Reply { answer, buffer }
+    Reply {
+        answer: answer.map(Some),
+        buffer,
+    }
 }
 
 // Makes a call on a unit.

@@ -10,7 +10,7 @@ use std::alloc::{AllocError, Global};
 use unit::PackUnit;
 
 // Makes the calls of a list on a unit, and gives their replies in order. Memory for the replies is had first, so where
-// there is none no call is made.
+// there is none no call is made. A loop and not `map`: a closure would have to say which unit each call found and left.
 pub fn run<D: BlockDevice>(
     heap: Global,
     unit: &mut PackUnit<D>,

@@ -1,9 +1,9 @@
 -- Find and show answer as the model's steps do. Assumes nothing.
 use Rattle.std.proofs.Common.{◌≡◌, ℕ, ◌+◌, ◌-◌, ◌<◌, ◌≤◌, Bool, true, false, cond, ◌&&◌, eqb, ltb, leb, ◌⊎◌, List, ◌++◌, length, drop, is_some, Some, None, Ok, Err, Option, Result, sym, refl, ap, ◌∙◌, subst, inl, inr, arith}
 use Rattle.std.proofs.lemmas.Bool.{and_cases, and_parts, leb-false, leb-true, ltb-false, ltb-true}
-use Rattle.std.specs.Option.{option_or}
+use Rattle.std.specs.Option.{ok_or, option_or}
 use Rattle.refusal.specs.declared.Refusal.{Refusal}
-use Rattle.refusal.specs.declared.Refusal.TheVariants.{BadName, NoSuchFile, OutOfRange}
+use Rattle.refusal.specs.declared.Refusal.TheVariants.{BadName, NoPack, NoSuchFile}
 use Rattle.blocks.specs.Devices.{Device, block_at, size_of}
 use Rattle.directory.specs.Entries.{entry_at, entry_or, entry_read}
 use Rattle.directory.specs.Judgements.{judged}
@@ -50,6 +50,25 @@ module _ (st : State) (d : Device) (consistent : (pack : Pack) → st.pack ≡ S
   files-are : (pack : Pack) → st.pack ≡ Some pack → files_of (pack_on d) ≡ files_from d 3 (pack.left - 3)
   files-are pack up = ap (λ r. files_of (pack_found d r)) (consistent pack up)
 
+  -- the stages that find and show share, then what is asked of the pack that is up
+  module _ (gate : Bool → Option Refusal) (next : Pack → Result Found Refusal) (o : Option Found) (none : gate false ≡ Some NoPack)
+      (each : (pack : Pack) → st.pack ≡ Some pack → work ≡ 1024 → shown_reply (next pack) buffer ≡ (unless (gate true) (model_of st d) buffer (shown_step (model_of st d) buffer o)).reply) where
+    by-pack : work ≡ 1024 → (p : Option Pack) → st.pack ≡ p
+        → shown_reply (with_pack (ok_or p NoPack) next) buffer ≡ (unless (gate (is_some p)) (model_of st d) buffer (shown_step (model_of st d) buffer o)).reply
+    by-pack long None up = ap (λ g. (unless g (model_of st d) buffer (shown_step (model_of st d) buffer o)).reply) (sym none)
+    by-pack long (Some pack) up = each pack up long
+
+    by-buffer : work ≡ 1024 → (b : Option Refusal)
+        → shown_reply (with_pack (after b (ok_or st.pack NoPack)) next) buffer ≡ (unless (option_or b (gate (is_some st.pack))) (model_of st d) buffer (shown_step (model_of st d) buffer o)).reply
+    by-buffer long None = by-pack long st.pack refl
+    by-buffer long (Some refusal) = refl
+
+    by-work : (w : Option Refusal) → work_stage work ≡ w
+        → shown_reply (with_pack (after w (after (buffer_stage buffer) (ok_or st.pack NoPack))) next) buffer
+        ≡ (unless (option_or w (option_or (buffer_stage buffer) (gate (is_some st.pack)))) (model_of st d) buffer (shown_step (model_of st d) buffer o)).reply
+    by-work None h = by-buffer (full work h) (buffer_stage buffer)
+    by-work (Some refusal) h = refl
+
   module _ (kind : NameKind) (name : List ℕ) where
     abbrev hit : Option Found
     hit = first_file (λ e bytes. is_match (fits_name kind name) bytes) 3 (files_of (pack_on d))
@@ -62,26 +81,10 @@ module _ (st : State) (d : Device) (consistent : (pack : Pack) → st.pack ≡ S
         ∙ ap (λ files. Ok (first_file (λ e bytes. is_match (fits_name kind name) bytes) 3 files)) (sym (files-are pack up)))
     by_name pack up long false t = refl
 
-    by-pack : work ≡ 1024 → (o : Option Pack) → st.pack ≡ o
-        → shown_reply (with_pack o (λ pack. some_file (named d kind name work pack))) buffer
-        ≡ (unless (option_or (pack_stage (is_some o)) (name_stage (is_name kind name))) (model_of st d) buffer (shown_step (model_of st d) buffer hit)).reply
-    by-pack long None up = refl
-    by-pack long (Some pack) up = by_name pack up long (is_name kind name) refl
-
-    by-buffer : work ≡ 1024 → (b : Option Refusal)
-        → shown_reply (after b (with_pack st.pack (λ pack. some_file (named d kind name work pack)))) buffer
-        ≡ (unless (option_or b (option_or (pack_stage (is_some st.pack)) (name_stage (is_name kind name)))) (model_of st d) buffer (shown_step (model_of st d) buffer hit)).reply
-    by-buffer long None = by-pack long st.pack refl
-    by-buffer long (Some refusal) = refl
-
-    by-work : (w : Option Refusal) → work_stage work ≡ w
-        → shown_reply (after w (after (buffer_stage buffer) (with_pack st.pack (λ pack. some_file (named d kind name work pack))))) buffer
-        ≡ (unless (option_or w (option_or (buffer_stage buffer) (option_or (pack_stage (is_some st.pack)) (name_stage (is_name kind name))))) (model_of st d) buffer (shown_step (model_of st d) buffer hit)).reply
-    by-work None h = by-buffer (full work h) (buffer_stage buffer)
-    by-work (Some refusal) h = refl
-
     find-reply : shown_reply (file_found st d work kind name buffer) buffer ≡ (find_step (model_of st d) work kind name buffer).reply
-    find-reply = by-work (work_stage work) refl
+    find-reply =
+        by-work (λ up. option_or (pack_stage up) (name_stage (is_name kind name))) (λ pack. some_file (named d kind name work pack)) hit refl
+        (λ pack up long. by_name pack up long (is_name kind name) refl) (work_stage work) refl
 
     find-keeps : (find_step (model_of st d) work kind name buffer).model ≡ model_of st d
     find-keeps = kept (model_of st d) buffer hit _
@@ -109,25 +112,8 @@ module _ (st : State) (d : Device) (consistent : (pack : Pack) → st.pack ≡ S
         out (inl q) = inl (leb-false 3 entry q)
         out (inr q) = inr (omega (arith, ltb-false entry pack.left q, (known d pack (consistent pack up)).from))
 
-    show-pack : work ≡ 1024 → (o : Option Pack) → st.pack ≡ o
-        → shown_reply (with_pack o (numbered d entry work)) buffer ≡ (unless (pack_stage (is_some o)) (model_of st d) buffer (shown_step (model_of st d) buffer own)).reply
-    show-pack long None up = refl
-    show-pack long (Some pack) up = by_number pack up long (leb 3 entry && ltb entry pack.left) refl
-
-    show-buffer : work ≡ 1024 → (b : Option Refusal)
-        → shown_reply (after b (with_pack st.pack (numbered d entry work))) buffer
-        ≡ (unless (option_or b (pack_stage (is_some st.pack))) (model_of st d) buffer (shown_step (model_of st d) buffer own)).reply
-    show-buffer long None = show-pack long st.pack refl
-    show-buffer long (Some refusal) = refl
-
-    show-work : (w : Option Refusal) → work_stage work ≡ w
-        → shown_reply (after w (after (buffer_stage buffer) (with_pack st.pack (numbered d entry work)))) buffer
-        ≡ (unless (option_or w (option_or (buffer_stage buffer) (pack_stage (is_some st.pack)))) (model_of st d) buffer (shown_step (model_of st d) buffer own)).reply
-    show-work None h = show-buffer (full work h) (buffer_stage buffer)
-    show-work (Some refusal) h = refl
-
     show-reply : shown_reply (file_shown st d work entry buffer) buffer ≡ (show_step (model_of st d) work entry buffer).reply
-    show-reply = show-work (work_stage work) refl
+    show-reply = by-work pack_stage (numbered d entry work) own refl (λ pack up long. by_number pack up long (leb 3 entry && ltb entry pack.left) refl) (work_stage work) refl
 
     show-keeps : (show_step (model_of st d) work entry buffer).model ≡ model_of st d
     show-keeps = kept (model_of st d) buffer own _
@@ -148,22 +134,3 @@ module _ (st : State) (d : Device) (wide : (b : ℕ) → b < size_of d → lengt
     refused = λ _. refl;
     bytes = λ _. laid_on d wide (show_step (model_of st d) work entry buffer).model (ap (λ (m : Model). m.pack) (show-keeps st d rep.judged work buffer entry));
   })
-
--- a file is only found where the buffer has room for an entry
-roomy : (buffer : List ℕ) → buffer_stage buffer ≡ None → 26 ≤ length buffer
-roomy buffer h = go (leb 26 (length buffer)) refl h
-  where
-    go : (t : Bool) → leb 26 (length buffer) ≡ t → cond t None (Some OutOfRange) ≡ None → 26 ≤ length buffer
-    go true t q = leb-true 26 (length buffer) t
-    go false t q = absurd (let z : ◌≡◌ {A = ℕ} 0 1 = cc in omega arith)
-
-after-room : (buffer : List ℕ) (file : Found) (w b : Option Refusal) (rest : Result Found Refusal) → buffer_stage buffer ≡ b → Ok file ≡ after w (after b rest) → 26 ≤ length buffer
-after-room buffer file None None rest h is = roomy buffer h
-after-room buffer file None (Some refusal) rest h is = absurd (let z : ◌≡◌ {A = ℕ} 0 1 = cc in omega arith)
-after-room buffer file (Some refusal) b rest h is = absurd (let z : ◌≡◌ {A = ℕ} 0 1 = cc in omega arith)
-
-pub found-room : (st : State) (d : Device) (work : ℕ) (kind : NameKind) (name buffer : List ℕ) (file : Found) → Ok file ≡ file_found st d work kind name buffer → 26 ≤ length buffer
-found-room st d work kind name buffer file is = after-room buffer file (work_stage work) (buffer_stage buffer) _ refl is
-
-pub shown-room : (st : State) (d : Device) (work entry : ℕ) (buffer : List ℕ) (file : Found) → Ok file ≡ file_shown st d work entry buffer → 26 ≤ length buffer
-shown-room st d work entry buffer file is = after-room buffer file (work_stage work) (buffer_stage buffer) _ refl is

@@ -1,24 +1,20 @@
 -- Entries built field by field, and the block that holds them. Assumes nothing.
-use Rattle.std.proofs.Common.{◌≡◌, ℕ, suc, ◌+◌, ◌-◌, true, List, [], ◌∷◌, ◌++◌, length, take, drop, replicate, Some, None, Option, refl, ap, ◌∙◌, ap₂, append_assoc, arith}
+use Rattle.std.proofs.Common.{◌≡◌, ℕ, ◌+◌, ◌-◌, List, [], ◌∷◌, ◌++◌, length, take, drop, replicate, Some, None, Option, refl, ap, ◌∙◌, ap₂, append_assoc, arith}
+use Rattle.std.proofs.Math.Seq.{take-append-add}
 use Rattle.std.proofs.lemmas.List.{drop-replicate}
 use Rattle.std.specs.Option.{option_map}
-use Rattle.names.specs.Names.{is_volume, name_field}
-use Rattle.entry.specs.Fields.{check_bytes, long_bytes, word_bytes}
+use Rattle.entry.specs.Fields.{check_bytes, long_bytes}
 use Rattle.parts.specs.Parts.{stored}
 use Rattle.entry.specs.Stamps.{date_bytes}
 use Rattle.entry.specs.declared.date.Date.{Date}
-use Rattle.model.specs.Fresh.{dated, entry_bytes, volume_entry}
+use Rattle.model.specs.Fresh.{begun, dated}
 use Rattle.model.specs.Models.{stamp_of_date}
-use Rattle.model.proofs.Fields.{field-long, past}
-
-take_past : (xs ys : List ℕ) (n k : ℕ) → n ≡ length xs + k → take n (xs ++ ys) ≡ xs ++ take k ys
-take_past [] ys n k e = ap (λ j. take j ys) (let z : n ≡ k = omega arith in z)
-take_past (x ∷ xs) ys n k e = ap (λ j. take j (x ∷ (xs ++ ys))) (let z : n ≡ suc (length xs + k) = omega arith in z) ∙ ap (λ zs. x ∷ zs) (take_past xs ys (length xs + k) k refl)
+use Rattle.model.proofs.Fields.{past}
 
 -- a write behind the front changes what is behind it alone
 behind : (front tail new : List ℕ) (m at k : ℕ) → length front ≡ m → at ≡ m + k → stored (front ++ tail) at new ≡ front ++ stored tail k new
 behind front tail new m at k long is =
-    ap₂ (λ one two. one ++ (new ++ two)) (take_past front tail at k (omega arith)) (past front tail m (at + length new) (k + length new) long (omega arith))
+    ap₂ (λ one two. one ++ (new ++ two)) (ap (λ n. take n (front ++ tail)) (let z : at ≡ length front + k = omega arith in z) ∙ take-append-add front tail k) (past front tail m (at + length new) (k + length new) long (omega arith))
     ∙ append_assoc front (take k tail) (new ++ drop (k + length new) tail)
 
 step : (front tail new b b' : List ℕ) (m at k : ℕ) → length front ≡ m → at ≡ m + k → b ≡ front ++ tail → b' ≡ stored b at new → b' ≡ front ++ stored tail k new
@@ -28,46 +24,25 @@ step front tail new b b' m at k long is old made = made ∙ ap (λ bytes. stored
 first : (new b b' : List ℕ) (zeros : List ℕ) → b ≡ zeros → b' ≡ stored b 0 new → b' ≡ new ++ drop (length new) zeros
 first new b b' zeros old made = made ∙ ap (λ bytes. stored bytes 0 new) old ∙ ap (λ n. new ++ drop n zeros) (let z : 0 + length new ≡ length new = omega arith in z)
 
-module _ (name field : List ℕ) (date : Option Date) (keeps : is_volume name ≡ true) (is : field ≡ name_field name) where
-  long : length field ≡ 12
-  long = ap length is ∙ field-long name keeps
+module _ (field : List ℕ) (long : length field ≡ 12) (a : ℕ) (date : Option Date) where
+  dated-behind : (day : Option Date) → stored (stored (replicate 14 0) 0 (a ∷ [])) 11 (date_bytes day) ≡ a ∷ (replicate 10 0 ++ dated (option_map stamp_of_date day))
+  dated-behind None = refl
+  dated-behind (Some day) = refl
 
-  -- a file's entry
-  module _ (a f r u l : ℕ) where
-    behind-name : (day : Option Date) → stored (stored (stored (stored (stored (stored (replicate 14 0) 0 (a ∷ [])) 1 (long_bytes f)) 5 (word_bytes r)) 7 (word_bytes u)) 9 (word_bytes l)) 11 (date_bytes day)
-        ≡ a ∷ (long_bytes f ++ (word_bytes r ++ (word_bytes u ++ (word_bytes l ++ dated (option_map stamp_of_date day)))))
-    behind-name None = refl
-    behind-name (Some day) = refl
-
-    pub built : (b0 b1 b2 b3 b4 b5 b6 b7 : List ℕ) → b0 ≡ replicate 26 0 → b1 ≡ stored b0 0 field → b2 ≡ stored b1 12 (a ∷ []) → b3 ≡ stored b2 13 (long_bytes f)
-        → b4 ≡ stored b3 17 (word_bytes r) → b5 ≡ stored b4 19 (word_bytes u) → b6 ≡ stored b5 21 (word_bytes l) → b7 ≡ stored b6 23 (date_bytes date)
-        → b7 ≡ entry_bytes name a f r u l (option_map stamp_of_date date)
-    built b0 b1 b2 b3 b4 b5 b6 b7 e0 e1 e2 e3 e4 e5 e6 e7 =
-        let t1 : b1 ≡ field ++ replicate 14 0 = first field b0 b1 (replicate 26 0) e0 e1 ∙ ap (λ n. field ++ drop n (replicate 26 0)) long in
-        let t2 = step field _ (a ∷ []) b1 b2 12 12 0 long refl t1 e2 in
-        let t3 = step field _ (long_bytes f) b2 b3 12 13 1 long refl t2 e3 in
-        let t4 = step field _ (word_bytes r) b3 b4 12 17 5 long refl t3 e4 in
-        let t5 = step field _ (word_bytes u) b4 b5 12 19 7 long refl t4 e5 in
-        let t6 = step field _ (word_bytes l) b5 b6 12 21 9 long refl t5 e6 in
-        let t7 = step field _ (date_bytes date) b6 b7 12 23 11 long refl t6 e7 in
-        t7 ∙ ap₂ ◌++◌ is (behind-name date)
+  -- an entry with its name, its attributes and its date
+  pub begins : (b0 b1 b2 b3 : List ℕ) → b0 ≡ replicate 26 0 → b1 ≡ stored b0 0 field → b2 ≡ stored b1 12 (a ∷ []) → b3 ≡ stored b2 23 (date_bytes date)
+      → b3 ≡ begun field a (option_map stamp_of_date date)
+  begins b0 b1 b2 b3 e0 e1 e2 e3 =
+      let t1 : b1 ≡ field ++ replicate 14 0 = first field b0 b1 (replicate 26 0) e0 e1 ∙ ap (λ n. field ++ drop n (replicate 26 0)) long in
+      let t2 = step field _ (a ∷ []) b1 b2 12 12 0 long refl t1 e2 in
+      step field _ (date_bytes date) b2 b3 12 23 11 long refl t2 e3 ∙ ap (λ tail. field ++ tail) (dated-behind date)
 
   -- the volume's entry
-  module _ (a n : ℕ) where
-    behind-volume : (day : Option Date) → stored (stored (stored (stored (replicate 14 0) 0 (a ∷ [])) 1 check_bytes) 5 (long_bytes n)) 11 (date_bytes day)
-        ≡ a ∷ (check_bytes ++ (long_bytes n ++ (0 ∷ 0 ∷ dated (option_map stamp_of_date day))))
-    behind-volume None = refl
-    behind-volume (Some day) = refl
-
-    pub built-volume : (directory : ℕ) (b0 b1 b2 b3 b4 b5 : List ℕ) → a ≡ 128 + directory → b0 ≡ replicate 26 0 → b1 ≡ stored b0 0 field → b2 ≡ stored b1 12 (a ∷ [])
-        → b3 ≡ stored b2 13 check_bytes → b4 ≡ stored b3 17 (long_bytes n) → b5 ≡ stored b4 23 (date_bytes date) → b5 ≡ volume_entry name directory n (option_map stamp_of_date date)
-    built-volume directory b0 b1 b2 b3 b4 b5 counts e0 e1 e2 e3 e4 e5 =
-        let t1 : b1 ≡ field ++ replicate 14 0 = first field b0 b1 (replicate 26 0) e0 e1 ∙ ap (λ n. field ++ drop n (replicate 26 0)) long in
-        let t2 = step field _ (a ∷ []) b1 b2 12 12 0 long refl t1 e2 in
-        let t3 = step field _ check_bytes b2 b3 12 13 1 long refl t2 e3 in
-        let t4 = step field _ (long_bytes n) b3 b4 12 17 5 long refl t3 e4 in
-        let t5 = step field _ (date_bytes date) b4 b5 12 23 11 long refl t4 e5 in
-        t5 ∙ ap₂ ◌++◌ is (behind-volume date ∙ ap (λ c. c ∷ (check_bytes ++ (long_bytes n ++ (0 ∷ 0 ∷ dated (option_map stamp_of_date date))))) counts)
+  pub volume-built : (n : ℕ) (b0 b1 b2 : List ℕ) → b0 ≡ begun field a (option_map stamp_of_date date) → b1 ≡ stored b0 13 check_bytes → b2 ≡ stored b1 17 (long_bytes n)
+      → b2 ≡ field ++ (a ∷ (check_bytes ++ (long_bytes n ++ (0 ∷ 0 ∷ dated (option_map stamp_of_date date)))))
+  volume-built n b0 b1 b2 e0 e1 e2 =
+      let t1 = step field _ check_bytes b0 b1 12 13 1 long refl e0 e1 in
+      step field _ (long_bytes n) b1 b2 12 17 5 long refl t1 e2
 
 -- the four entries in a block of zeros
 zeros-put : (new : List ℕ) (n m : ℕ) → length new ≡ 26 → m ≡ n - 26 → stored (replicate n 0) 0 new ≡ new ++ replicate m 0

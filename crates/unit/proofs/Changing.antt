@@ -1,6 +1,6 @@
 -- Set date and take up change what the model's steps change. Assumes nothing.
-use Rattle.std.proofs.Common.{◌≡◌, ℕ, ◌<◌, true, false, [], length, is_err, Some, None, Ok, Err, Option, Result, sym, refl, ap, ◌∙◌, subst, arith}
-use Rattle.std.proofs.lemmas.Bool.{cond-false, cond-true, true≢false}
+use Rattle.std.proofs.Common.{◌≡◌, ℕ, ◌<◌, true, false, [], length, is_err, Some, None, Ok, Err, Option, Result, sym, refl, ap, ◌∙◌, subst}
+use Rattle.std.proofs.lemmas.Bool.{cond-false, cond-true}
 use Rattle.refusal.specs.declared.Refusal.{Refusal}
 use Rattle.refusal.specs.declared.Refusal.TheVariants.{OutOfRange}
 use Rattle.blocks.specs.Devices.{Device, block_at, size_of}
@@ -41,8 +41,8 @@ module _ (st : State) (d : Device) (wide : (b : ℕ) → b < size_of d → lengt
 
   taken-judged : (w : Option Refusal) (j : Result Pack Refusal) → judged d 1024 ≡ j → ((pack : Pack) → st.pack ≡ Some pack → judged d 1024 ≡ Ok pack)
       → (pack : Pack) → (state_unless w st (pack_taken j)).pack ≡ Some pack → judged d 1024 ≡ Ok pack
-  taken-judged None (Ok taken) is old pack up = is ∙ ap Ok (let same : taken ≡ pack = cc in same)
-  taken-judged None (Err refusal) is old pack up = absurd (let z : ◌≡◌ {A = ℕ} 0 1 = cc in omega arith)
+  taken-judged None (Ok taken) is old pack up = cc
+  taken-judged None (Err refusal) is old pack up = cc
   taken-judged (Some refusal) j is old pack up = old pack up
 
   pub take-up-decided : (reply : Reply) (st' : State) → reply ≡ answered (work_stage work) (judged d 1024) → st' ≡ state_taken st work (judged d 1024)
@@ -60,9 +60,9 @@ module _ (st : State) (d : Device) (wide : (b : ℕ) → b < size_of d → lengt
       by None h = go (judged d 1024) refl
         where
           go : (j : Result Pack Refusal) → judged d 1024 ≡ j → (pack : Pack) → pack_taken j ≡ Some pack → judged d 1024 ≡ Ok pack
-          go (Ok taken) e pack up = e ∙ ap Ok (let same : taken ≡ pack = cc in same)
-          go (Err refusal) e pack up = absurd (let z : ◌≡◌ {A = ℕ} 0 1 = cc in omega arith)
-      by (Some refusal) h = absurd (true≢false h)
+          go (Ok taken) e pack up = cc
+          go (Err refusal) e pack up = cc
+      by (Some refusal) h = cc
 
   pub take-up-turn : (reply : Reply) (st' : State) → reply ≡ answered (work_stage work) (judged d 1024) → st' ≡ state_taken st work (judged d 1024)
       → Turns st d (take_up work) reply st' d
@@ -93,7 +93,7 @@ module _ (st : State) (d : Device) (wide : (b : ℕ) → b < size_of d → lengt
     where
       passes : (w : Option Refusal) → ◌≡◌ {A = Result (Unit {0}) Refusal} (Ok tt) (after w (Ok tt)) → w ≡ None
       passes None h = refl
-      passes (Some refusal) h = absurd (let z : ◌≡◌ {A = ℕ} 0 1 = cc in omega arith)
+      passes (Some refusal) h = cc
 
   -- the work block was wrong
   pub not_taken : (refusal : Refusal) (reply : Reply) → ◌≡◌ {A = Result (Unit {0}) Refusal} (Err refusal) (after (work_stage work) (Ok tt)) → reply ≡ done (Err refusal) → TakenUp reply st
@@ -104,8 +104,8 @@ module _ (st : State) (d : Device) (wide : (b : ℕ) → b < size_of d → lengt
       record { decided = take-up-decided reply st reply-is state-is; turn = take-up-turn reply st reply-is state-is; state = state-is }
     where
       stops : (w : Option Refusal) → ◌≡◌ {A = Result (Unit {0}) Refusal} (Err refusal) (after w (Ok tt)) → w ≡ Some refusal
-      stops None h = absurd (let z : ◌≡◌ {A = ℕ} 0 1 = cc in omega arith)
-      stops (Some own) h = ap Some (let same : own ≡ refusal = cc in same)
+      stops None h = cc
+      stops (Some own) h = cc
 
 -- set date
 pub dated-turn : (st : State) (d : Device) → ((b : ℕ) → b < size_of d → length (block_at d b) ≡ 1024) → (year month day : ℕ) (date : Date) → is_day year month day ≡ true

@@ -1,15 +1,14 @@
 -- The blocks that initialise reads and writes. Assumes nothing.
-use Rattle.std.proofs.Common.{◌≡◌, ℕ, suc, ◌+◌, ◌<◌, ◌≤◌, cond, eqb, ltb, List, length, replicate, Some, None, Ok, Err, Option, Result, sym, refl, ap, ◌∙◌, arith}
+use Rattle.std.proofs.Common.{◌≡◌, ℕ, suc, ◌+◌, ◌<◌, ◌≤◌, cond, eqb, ltb, List, length, replicate, Some, None, Ok, Option, Result, sym, refl, ap, ◌∙◌, arith}
 use Rattle.std.proofs.lemmas.Bool.{and_from, lt-ltb}
-use Rattle.std.specs.Option.{option_map, option_or}
-use Rattle.refusal.specs.declared.Refusal.{Refusal}
-use Rattle.blocks.specs.Devices.{Device, mark_at, mark_fault, outcome, read_fault, refusal_of, size_of, tab_fault, write_fault, written}
+use Rattle.std.specs.Option.{option_or}
+use Rattle.blocks.specs.Devices.{Device, mark_at, mark_fault, outcome, read_fault, size_of, tab_fault, write_fault, written}
 use Rattle.blocks.specs.declared.faults.Fault.{Fault}
 use Rattle.blocks.specs.declared.faults.Fault.TheVariants.{OutOfRange}
 use Rattle.blocks.specs.declared.faults.Tab.TheVariants.{Off}
 use Rattle.model.specs.Steps.{first_bad}
 use Rattle.model.proofs.Freshness.{sound-read, zeroed-long}
-use Rattle.unit.specs.Calls.{after, cleared}
+use Rattle.unit.specs.Calls.{cleared}
 
 -- a block of the device is refused by its mark alone
 mark-read : (d : Device) (b len : ℕ) → b < size_of d → len ≡ 1024 → read_fault d b len ≡ mark_fault (mark_at d b)
@@ -17,34 +16,18 @@ mark-read d b len h full =
     ap (read_fault d b) full
     ∙ ap (λ t. cond t (mark_fault (mark_at d b)) (Some (OutOfRange b))) (and_from (ltb b (size_of d)) (eqb 1024 1024) (lt-ltb b (size_of d) h) refl)
 
-module _ (d : Device) (b len n m : ℕ) (inside : b < size_of d) (full : len ≡ 1024) (more : n ≡ suc m) where
-  -- the bad block is the one that is told
-  pub bad-ends : (fault : Fault) (whole : Option Fault) → ◌≡◌ {A = Result (Unit {0}) Fault} (Err fault) (outcome (read_fault d b len)) → first_bad d.marks b n ≡ whole
-      → ◌≡◌ {A = Result (Unit {0}) Refusal} (Err (refusal_of fault)) (after (option_map refusal_of whole) (Ok tt))
-  bad-ends fault whole told is = go (read_fault d b len) (sym (mark-read d b len inside full)) told
-    where
-      go : (o : Option Fault) → mark_fault (mark_at d b) ≡ o → ◌≡◌ {A = Result (Unit {0}) Fault} (Err fault) (outcome o)
-          → ◌≡◌ {A = Result (Unit {0}) Refusal} (Err (refusal_of fault)) (after (option_map refusal_of whole) (Ok tt))
-      go None q t = absurd (let z : ◌≡◌ {A = ℕ} 0 1 = cc in omega arith)
-      go (Some own) q t =
-          ap (λ f. Err (refusal_of f)) (let same : fault ≡ own = cc in same)
-          ∙ ap (λ o. after (option_map refusal_of o) (Ok tt)) (sym (ap (λ o. option_or o (first_bad d.marks (b + 1) m)) q) ∙ sym (ap (first_bad d.marks b) more) ∙ is)
-
-  pub bad-on : ◌≡◌ {A = Result (Unit {0}) Fault} (Ok tt) (outcome (read_fault d b len)) → first_bad d.marks (b + 1) m ≡ first_bad d.marks b n
-  bad-on told = sym (ap (first_bad d.marks b) more ∙ ap (λ o. option_or o (first_bad d.marks (b + 1) m)) (sym (mark-read d b len inside full) ∙ go (read_fault d b len) told))
-    where
-      go : (o : Option Fault) → ◌≡◌ {A = Result (Unit {0}) Fault} (Ok tt) (outcome o) → o ≡ None
-      go None t = refl
-      go (Some fault) t = absurd (let z : ◌≡◌ {A = ℕ} 0 1 = cc in omega arith)
-
-pub bad-none : (d : Device) (b n : ℕ) (whole : Option Fault) → n ≡ 0 → first_bad d.marks b n ≡ whole → ◌≡◌ {A = Result (Unit {0}) Refusal} (Ok tt) (after (option_map refusal_of whole) (Ok tt))
-bad-none d b n whole e is = ap (λ o. after (option_map refusal_of o) (Ok tt)) (sym (ap (first_bad d.marks b) e) ∙ is)
+-- a block that was read is not bad
+pub bad-on : (d : Device) (b len n m : ℕ) → b < size_of d → len ≡ 1024 → n ≡ suc m → ◌≡◌ {A = Result (Unit {0}) Fault} (Ok tt) (outcome (read_fault d b len)) → first_bad d.marks (b + 1) m ≡ first_bad d.marks b n
+bad-on d b len n m inside full more told = sym (ap (first_bad d.marks b) more ∙ ap (λ o. option_or o (first_bad d.marks (b + 1) m)) (sym (mark-read d b len inside full) ∙ go (read_fault d b len) told))
+  where
+    go : (o : Option Fault) → ◌≡◌ {A = Result (Unit {0}) Fault} (Ok tt) (outcome o) → o ≡ None
+    go None t = refl
+    go (Some fault) t = cc
 
 -- a block of the directory can be written
-pub can_write : (d : Device) (directory b len : ℕ) → d.tab ≡ Off → directory < size_of d → first_bad d.marks 1 directory ≡ None → 1 ≤ b → b ≤ directory → len ≡ 1024 → write_fault d b len ≡ None
-can_write d directory b len off within sound low high full =
-    ap (write_fault d b) full
-    ∙ ap (λ t. cond t (tab_fault d.tab (mark_fault (mark_at d b))) (Some (OutOfRange b))) (and_from (ltb b (size_of d)) (eqb 1024 1024) (lt-ltb b (size_of d) (omega arith)) refl)
+pub can_write : (d : Device) (directory b : ℕ) → d.tab ≡ Off → directory < size_of d → first_bad d.marks 1 directory ≡ None → 1 ≤ b → b ≤ directory → write_fault d b 1024 ≡ None
+can_write d directory b off within sound low high =
+    ap (λ t. cond t (tab_fault d.tab (mark_fault (mark_at d b))) (Some (OutOfRange b))) (and_from (ltb b (size_of d)) (eqb 1024 1024) (lt-ltb b (size_of d) (omega arith)) refl)
     ∙ ap (λ t. tab_fault t (mark_fault (mark_at d b))) off
     ∙ sym (mark-read d b 1024 (omega arith) refl) ∙ sound-read d directory 1 sound (omega arith) b low (omega arith)
 

@@ -4,26 +4,27 @@
 --   refusal_on, Writable, Admitted   why initialise is refused, and what is known where it is not
 --   fresh_state, Initialised   what initialise leaves
 --   state_taken                what a unit knows after a take up
+--   pack_asked                 the pack that find and show ask, or what refuses both
 --   file_found, file_shown     the file that find and show are about, or why there is none
-use Rattle.std.specs.Prelude.{◌≡◌, ℕ, ◌+◌, ◌-◌, ◌<◌, cond, ◌&&◌, List, [], Some, None, Ok, Err, Option, Result, nat_le, nat_lt}
-use Rattle.std.specs.Option.{option_map, option_or}
+use Rattle.std.specs.Prelude.{◌≡◌, ℕ, ◌<◌, cond, ◌&&◌, List, [], Some, None, Ok, Err, Option, Result, nat_le, nat_lt}
+use Rattle.std.specs.Option.{ok_or, option_map}
 use Rattle.refusal.specs.declared.Refusal.{Refusal}
 use Rattle.refusal.specs.declared.Refusal.TheVariants.{BadName, NoPack, NoSuchFile}
 use Rattle.blocks.specs.Devices.{Device, size_of}
 use Rattle.blocks.specs.declared.faults.Tab.TheVariants.{Off}
-use Rattle.names.specs.Names.{is_volume, name_field}
+use Rattle.names.specs.Names.{name_field}
 use Rattle.entry.specs.declared.fields.Entry.{Entry}
 use Rattle.directory.specs.Entries.{entry_read}
 use Rattle.directory.specs.Lookups.{lookup_reply}
 use Rattle.directory.specs.declared.judgement.Pack.{Pack}
 use Rattle.directory.specs.declared.lookups.Found.{Found}
-use Rattle.model.specs.Fresh.{initialised, zeroed}
-use Rattle.model.specs.Models.{free_table, stamp_of_date}
+use Rattle.model.specs.Fresh.{fresh_known, initialised, zeroed}
+use Rattle.model.specs.Models.{empty_state, free_table, model_of, stamp_of_date}
 use Rattle.model.specs.Requests.{Reply}
-use Rattle.model.specs.Steps.{bad_stage, buffer_stage, first_bad, fits_name, is_name, name_stage, shape_stage, tab_stage, work_stage}
+use Rattle.model.specs.Steps.{buffer_stage, first_bad, fits_name, initialise_refusal, is_name, work_stage}
 use Rattle.model.specs.declared.state.NameKind.{NameKind}
 use Rattle.model.specs.declared.state.State.{State}
-use Rattle.unit.specs.declared.initialising.Shape.{Shape}
+use Rattle.unit.specs.declared.shape.Shape.{Shape}
 
 abbrev pub done : Result (Unit {0}) Refusal → Reply
 done (Ok _) = record { answer = Ok None; buffer = [] }
@@ -37,9 +38,13 @@ abbrev pub after : {X : Type 0} → Option Refusal → Result X Refusal → Resu
 after None rest = rest
 after (Some refusal) rest = Err refusal
 
-abbrev pub with_pack : Option Pack → (Pack → Result Found Refusal) → Result Found Refusal
-with_pack None next = Err NoPack
-with_pack (Some pack) next = next pack
+-- The pack that find and show ask, or what refuses both.
+abbrev pub pack_asked : State → ℕ → List ℕ → Result Pack Refusal
+pack_asked st work buffer = after (work_stage work) (after (buffer_stage buffer) (ok_or st.pack NoPack))
+
+abbrev pub with_pack : Result Pack Refusal → (Pack → Result Found Refusal) → Result Found Refusal
+with_pack (Ok pack) next = next pack
+with_pack (Err refusal) next = Err refusal
 
 abbrev pub some_file : Result (Option Found) Refusal → Result Found Refusal
 some_file (Ok None) = Err NoSuchFile
@@ -51,8 +56,7 @@ abbrev pub named : Device → NameKind → List ℕ → ℕ → Pack → Result 
 named d kind name len pack = cond (is_name kind name) (lookup_reply (fits_name kind name) d pack.directory len) (Err BadName)
 
 abbrev pub file_found : State → Device → ℕ → NameKind → List ℕ → List ℕ → Result Found Refusal
-file_found st d work kind name buffer =
-    after (work_stage work) (after (buffer_stage buffer) (with_pack st.pack (λ pack. some_file (named d kind name work pack))))
+file_found st d work kind name buffer = with_pack (pack_asked st work buffer) (λ pack. some_file (named d kind name work pack))
 
 -- An entry that is a file's.
 abbrev pub read_as : ℕ → Result Entry Refusal → Result Found Refusal
@@ -63,7 +67,7 @@ abbrev pub numbered : Device → ℕ → ℕ → Pack → Result Found Refusal
 numbered d entry len pack = cond (nat_le 3 entry && nat_lt entry pack.left) (read_as entry (entry_read d entry len)) (Err NoSuchFile)
 
 abbrev pub file_shown : State → Device → ℕ → ℕ → List ℕ → Result Found Refusal
-file_shown st d work entry buffer = after (work_stage work) (after (buffer_stage buffer) (with_pack st.pack (numbered d entry work)))
+file_shown st d work entry buffer = with_pack (pack_asked st work buffer) (numbered d entry work)
 
 -- What a unit knows after a take up: all as it was where the work block is wrong, else no pack or the one that was
 -- judged, and all numbers free.
@@ -78,10 +82,9 @@ state_unless (Some refusal) st pack = st
 abbrev pub state_taken : State → ℕ → Result Pack Refusal → State
 state_taken st work reply = state_unless (work_stage work) st (pack_taken reply)
 
--- Why initialise is refused on a device, if it is.
+-- Why initialise is refused on a device, if it is: whatever the unit knows, so as one that knows nothing.
 abbrev pub refusal_on : Device → ℕ → List ℕ → ℕ → ℕ → Option Refusal
-refusal_on d work name directory blocks =
-    option_or (work_stage work) (option_or (shape_stage (size_of d) directory blocks) (option_or (name_stage (is_volume name)) (option_or (tab_stage d.tab) (bad_stage d.marks directory))))
+refusal_on d work name directory blocks = initialise_refusal (model_of empty_state d) work name directory blocks
 
 -- All blocks of a directory, and block 1, can be written.
 pub record Writable (d : Device) (directory : ℕ) : Type 0 where
@@ -103,7 +106,7 @@ cleared d b count = record { blocks = zeroed d.blocks b count; marks = d.marks; 
 -- What initialise leaves: granted, the fresh pack on the device and in the state; refused, all as it was.
 abbrev pub fresh_state : State → ℕ → ℕ → State
 fresh_state st directory blocks = record {
-  pack = Some (record { blocks = blocks; directory = directory; left = 3; free = blocks - (1 + directory) });
+  pack = Some (fresh_known directory blocks);
   date = st.date;
   table = record { records = free_table };
 }

@@ -12,23 +12,15 @@ ghost use Rattle.std.specs.Option.{option_map};
 ghost use Rattle.unit.specs.Calls.{Admitted, Initialised, Writable, after, cleared, done, refusal_on};
 
 use crate::fresh::fill_first;
-use crate::stages::check_work;
+use crate::shape::Shape;
 use crate::units::PackUnit;
-use blocks::{BlockDevice, Tab};
-use directory::Pack;
+use blocks::{BLOCK, BlockDevice, Tab};
 use model::OpenTable;
 use names::VolumeName;
 use refusal::Refusal;
 
-// A fresh pack that can be made: its name, its directory blocks and its blocks.
-#[derive(Clone, Copy)]
-pub(crate) struct Shape {
-    pub(crate) name: VolumeName,
-    pub(crate) directory: u8,
-    pub(crate) blocks: u16,
-}
-
-// The directory has 1 to 127 blocks, and the pack at least one more than that and no more than the device.
+// The directory has 1 to 127 blocks, and the pack at least one more than that and no more than the device. Comparisons
+// and not ranges: one that begins at `directory + 1` is there only once the directory was tested.
 fn check_shape(size: u32, directory: u32, blocks: u32) -> Result<(), Refusal>
     ensures { result ≡ after (shape_stage size directory blocks) (Ok tt) }
 {
@@ -49,16 +41,16 @@ fn check_tab(tab: Tab) -> Result<(), Refusal>
 }
 
 // Reads blocks 1 to d: none of them may be bad.
-fn check_blocks<D: BlockDevice>(device: &D, directory: u32, work: &mut [u8]) -> Result<(), Refusal>
-    requires full { length work.old ≡ 1024 }
+fn check_blocks<D: BlockDevice>(
+    device: &D,
+    directory: u32,
+    work: &mut [u8; BLOCK],
+) -> Result<(), Refusal>
     requires within { directory < size_of (D.BlockDevice.meaning device.now) }
-    ensures reply { result ≡ after (bad_stage (D.BlockDevice.meaning device.now).marks directory) (Ok tt) }
-    ensures work { WorkBlock work.old work.new }
+    ensures { result ≡ after (bad_stage (D.BlockDevice.meaning device.now).marks directory) (Ok tt) }
 {
-    for block in 1..directory + 1 {
-        if let Err(fault) = device.read(block, work) {
-            return Err(Refusal::from(fault));
-        }
+    for block in 1..=directory {
+        device.read(block, work)?;
     }
     Ok(())
 }
@@ -69,16 +61,15 @@ fn admit<D: BlockDevice>(
     name: &[u8],
     directory: u32,
     blocks: u32,
-    work: &mut [u8],
+    work: &mut [u8; BLOCK],
 ) -> Result<Shape, Refusal>
-    ensures reply { MatchResult result (λ shape. Admitted (D.BlockDevice.meaning device.now) (length work.old) name.now directory blocks shape) (λ refusal. refusal_on (D.BlockDevice.meaning device.now) (length work.old) name.now directory blocks ≡ Some refusal) }
-    ensures work { WorkBlock work.old work.new }
+    ensures { MatchResult result (λ shape. Admitted (D.BlockDevice.meaning device.now) 1024 name.now directory blocks shape) (λ refusal. refusal_on (D.BlockDevice.meaning device.now) 1024 name.now directory blocks ≡ Some refusal) }
 {
-    check_work(work)?;
     check_shape(device.size(), directory, blocks)?;
     let name = VolumeName::new(name)?;
     check_tab(device.tab())?;
     check_blocks(device, directory, work)?;
+    // casts and not `try_from`, which could not fail: the numbers were tested
     Ok(Shape {
         name,
         directory: directory as u8,
@@ -87,24 +78,21 @@ fn admit<D: BlockDevice>(
 }
 
 // Writes a block that can be written.
-fn write_block<D: BlockDevice>(device: &mut D, block: u32, bytes: &[u8])
-    requires { write_fault (D.BlockDevice.meaning device.old) block (length bytes.now) ≡ None }
+fn write_block<D: BlockDevice>(device: &mut D, block: u32, bytes: &[u8; BLOCK])
+    requires { write_fault (D.BlockDevice.meaning device.old) block 1024 ≡ None }
     ensures { D.BlockDevice.meaning device.new ≡ written None (D.BlockDevice.meaning device.old) block bytes.now }
 {
-    match device.write(block, bytes) {
-        Ok(()) => (),
-        Err(_) => unreachable(),
-    }
+    device.write(block, bytes).unwrap()
 }
 
 // Makes blocks 2 to d zeros.
-fn zero_blocks<D: BlockDevice>(device: &mut D, directory: u8, zeros: &[u8])
-    requires writable { Writable (D.BlockDevice.meaning device.old) directory }
-    requires zeros { zeros.now ≡ replicate 1024 0 }
+fn zero_blocks<D: BlockDevice>(device: &mut D, directory: u8, work: &mut [u8; BLOCK])
+    requires { Writable (D.BlockDevice.meaning device.old) directory }
     ensures { D.BlockDevice.meaning device.new ≡ cleared (D.BlockDevice.meaning device.old) 2 (directory - 1) }
 {
-    for block in 2..u32::from(directory) + 1 {
-        write_block(device, block, zeros);
+    work.fill(0);
+    for block in 2..=u32::from(directory) {
+        write_block(device, block, work);
     }
 }
 
@@ -123,24 +111,13 @@ impl<D: BlockDevice> PackUnit<D> {
         ensures after { Initialised result self.old.state (D.BlockDevice.meaning self.old.device) name.now directory blocks self.new.state (D.BlockDevice.meaning self.new.device) }
         ensures work { WorkBlock work.old work.new }
     {
+        let work = work.as_mut_array::<BLOCK>().ok_or(Refusal::OutOfRange)?;
         let shape = admit(&self.device, name, directory, blocks, work)?;
-        work.fill(0);
         zero_blocks(&mut self.device, shape.directory, work);
-        fill_first(
-            work,
-            shape.name,
-            shape.directory,
-            shape.blocks,
-            self.state.date,
-        );
+        fill_first(work, &shape, self.state.date);
         write_block(&mut self.device, 1, work);
         self.state.table = OpenTable::free();
-        self.state.pack = Some(Pack {
-            blocks: u32::from(shape.blocks),
-            directory: shape.directory,
-            left: 3,
-            free: shape.blocks - (1 + u16::from(shape.directory)),
-        });
+        self.state.pack = Some(shape.pack());
         Ok(())
     }
 }

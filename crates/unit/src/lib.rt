@@ -5,6 +5,7 @@ mod changes;
 mod fresh;
 mod initialising;
 mod questions;
+mod shape;
 mod stages;
 mod units;
 

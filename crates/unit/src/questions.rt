@@ -4,14 +4,14 @@ ghost use Rattle.directory.specs.Entries.{WorkBlock};
 ghost use Rattle.directory.specs.Lookups.{lookup_reply};
 ghost use Rattle.model.specs.Represents.{Turns};
 ghost use Rattle.model.specs.Requests.{find as find_asked, show as show_asked};
-ghost use Rattle.unit.specs.Calls.{file_found, file_shown, named, number};
+ghost use Rattle.unit.specs.Calls.{file_found, file_shown, named, number, pack_asked};
 
 use crate::stages::{check_buffer, check_work, pack_up};
 use crate::units::PackUnit;
 use blocks::BlockDevice;
 use directory::{Found, Pack, lookup, read_entry};
 use entry::ENTRY;
-use model::{NameKind, State};
+use model::NameKind;
 use names::{Stem, WholeName};
 use refusal::Refusal;
 
@@ -32,51 +32,6 @@ fn find_named<D: BlockDevice>(
     }
 }
 
-// The file that find is about, or why there is none.
-fn find_file<D: BlockDevice>(
-    state: &State,
-    device: &D,
-    kind: NameKind,
-    name: &[u8],
-    buffer: &[u8],
-    work: &mut [u8],
-) -> Result<Found, Refusal>
-    ensures reply { result ≡ file_found state.now (D.BlockDevice.meaning device.now) (length work.old) kind name.now buffer.now }
-    ensures work { WorkBlock work.old work.new }
-{
-    check_work(work)?;
-    check_buffer(buffer)?;
-    let pack = pack_up(state)?;
-    let Some(file) = find_named(device, pack, kind, name, work)? else {
-        return Err(Refusal::NoSuchFile);
-    };
-    Ok(file)
-}
-
-// The file that show is about, or why there is none.
-fn show_file<D: BlockDevice>(
-    state: &State,
-    device: &D,
-    entry: u32,
-    buffer: &[u8],
-    work: &mut [u8],
-) -> Result<Found, Refusal>
-    ensures reply { result ≡ file_shown state.now (D.BlockDevice.meaning device.now) (length work.old) entry buffer.now }
-    ensures work { WorkBlock work.old work.new }
-{
-    check_work(work)?;
-    check_buffer(buffer)?;
-    let pack = pack_up(state)?;
-    if entry < 3 || entry >= pack.left {
-        return Err(Refusal::NoSuchFile);
-    }
-    let bytes = read_entry(device, entry, work)?;
-    Ok(Found {
-        number: entry,
-        entry: bytes,
-    })
-}
-
 // Puts a file's entry into the front of a buffer, and gives its number.
 fn put_front(buffer: &mut [u8], file: &Found) -> u32
     requires { 26 ≤ length buffer.old }
@@ -88,6 +43,46 @@ fn put_front(buffer: &mut [u8], file: &Found) -> u32
 }
 
 impl<D: BlockDevice> PackUnit<D> {
+    // The pack that a question is about, or what refuses every question.
+    fn asked(&self, buffer: &[u8], work: &[u8]) -> Result<Pack, Refusal>
+        ensures { result ≡ pack_asked self.now.state (length work.now) buffer.now }
+    {
+        check_work(work)?;
+        check_buffer(buffer)?;
+        pack_up(&self.state)
+    }
+
+    // The file that find is about, or why there is none.
+    fn find_file(
+        &self,
+        kind: NameKind,
+        name: &[u8],
+        buffer: &[u8],
+        work: &mut [u8],
+    ) -> Result<Found, Refusal>
+        ensures reply { result ≡ file_found self.now.state (D.BlockDevice.meaning self.now.device) (length work.old) kind name.now buffer.now }
+        ensures work { WorkBlock work.old work.new }
+    {
+        let pack = self.asked(buffer, work)?;
+        find_named(&self.device, pack, kind, name, work)?.ok_or(Refusal::NoSuchFile)
+    }
+
+    // The file that show is about, or why there is none.
+    fn show_file(&self, entry: u32, buffer: &[u8], work: &mut [u8]) -> Result<Found, Refusal>
+        ensures reply { result ≡ file_shown self.now.state (D.BlockDevice.meaning self.now.device) (length work.old) entry buffer.now }
+        ensures work { WorkBlock work.old work.new }
+    {
+        let pack = self.asked(buffer, work)?;
+        if entry < 3 || entry >= pack.left {
+            return Err(Refusal::NoSuchFile);
+        }
+        let bytes = read_entry(&self.device, entry, work)?;
+        Ok(Found {
+            number: entry,
+            entry: bytes,
+        })
+    }
+
     // Finds a live file by its whole name or by its stem: its entry is put into the front of the buffer, and the number
     // of the entry is replied.
     pub fn find(
@@ -100,7 +95,7 @@ impl<D: BlockDevice> PackUnit<D> {
         ensures turn { Turns self.now.state (D.BlockDevice.meaning self.now.device) (find_asked (length work.old) kind name.now buffer.old) (number result buffer.new) self.now.state (D.BlockDevice.meaning self.now.device) }
         ensures work { WorkBlock work.old work.new }
     {
-        let file = find_file(&self.state, &self.device, kind, name, buffer, work)?;
+        let file = self.find_file(kind, name, buffer, work)?;
         Ok(put_front(buffer, &file))
     }
 
@@ -109,7 +104,7 @@ impl<D: BlockDevice> PackUnit<D> {
         ensures turn { Turns self.now.state (D.BlockDevice.meaning self.now.device) (show_asked (length work.old) entry buffer.old) (number result buffer.new) self.now.state (D.BlockDevice.meaning self.now.device) }
         ensures work { WorkBlock work.old work.new }
     {
-        let file = show_file(&self.state, &self.device, entry, buffer, work)?;
+        let file = self.show_file(entry, buffer, work)?;
         Ok(put_front(buffer, &file))
     }
 }

@@ -11,7 +11,8 @@ use entry::ENTRY;
 use model::State;
 use refusal::Refusal;
 
-// The work block must be one block.
+// The work block must be one block. A test and not an array, as initialise has it: what find, show and take up call takes
+// a slice.
 pub(crate) fn check_work(work: &[u8]) -> Result<(), Refusal>
     ensures { result ≡ after (work_stage (length work.now)) (Ok tt) }
 {

@@ -6,7 +6,8 @@ ghost use Rattle.model.specs.Represents.{Represents};
 use blocks::BlockDevice;
 use model::State;
 
-// What the unit knows, and the device that it asks.
+// What the unit knows, and the device that it asks. Contracts name the two side by side, and no view of both: it would
+// hide that a call leaves the device itself as it was.
 #[derive(Drop)]
 pub struct PackUnit<D> {
     pub(crate) state: State,

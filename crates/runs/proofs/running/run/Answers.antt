@@ -1,15 +1,13 @@
-use Rattle.std.proofs.Common.{[], ◌∷◌, map, vec_items, sym, refl, ap, ◌∙◌, arith}
+use Rattle.std.proofs.Common.{[], ◌∷◌, map, vec_items, sym, ap, ◌∙◌, arith}
 use mathlib.Core.List.{map-append}
-use Rattle.std.proofs.lemmas.Result.{err_from_is_err_and}
+use Rattle.std.proofs.lemmas.List.{nil_from_length}
 use Rattle.std.specs.Vec.Iter.{into_iter_items}
 use Rattle.requests.specs.Values.{meant, told}
-use Rattle.runs.proofs.Tracing.{composes, err-cases, law-of, no_items, sofar-next}
+use Rattle.runs.proofs.Tracing.{composes, law-of, sofar-next}
 use Rattle.runs.proofs.running.run.Goals as goal
 
-pub returns-in_err-replies : goal.returns-in_err-replies
-returns-in_err-replies g c =
-    let exit = err_from_is_err_and c.from_residual.result c.from_residual.ensures.1 in
-    record { law = err-cases _ c.from_residual.result exit.0 exit.1 refl; compose = composes }
+pub returns-in_err-replies-clause-compose : goal.returns-in_err-replies-clause-compose
+returns-in_err-replies-clause-compose g c = composes
 
 pub loop-request-preserved : goal.loop-request-preserved
 loop-request-preserved g c =
@@ -31,6 +29,6 @@ returns g c =
       law = law-of c.args.unit.now.state (g.D.BlockDevice.meaning c.args.unit.now.device) (map meant (into_iter_items c.into_iter-request-iterator.result))
           (map meant (vec_items c.args.requests)) (map meant (into_iter_items c.loop-request.request-iterator)) (map told (vec_items c.loop-request.replies))
           c.loop-request.unit.state (g.D.BlockDevice.meaning c.loop-request.unit.device)
-          (ap (map meant) (no_items (into_iter_items c.loop-request.request-iterator) (sym c.loop-request.request-iterator.rest.ok.0 ∙ c.in-None.ensures.steps.0))) (ap (map meant) c.into_iter-request-iterator.ensures.into_iter_gives.0) c.loop-request.invariant.2;
+          (ap (map meant) (nil_from_length (into_iter_items c.loop-request.request-iterator) (sym c.loop-request.request-iterator.rest.ok.0 ∙ c.in-None.ensures.steps.0))) (ap (map meant) c.into_iter-request-iterator.ensures.into_iter_gives.0) c.loop-request.invariant.2;
       compose = composes;
     }

@@ -1,8 +1,16 @@
-use Rattle.std.proofs.Common.{refl, ◌∙◌}
-use Rattle.unit.proofs.Building.{built-volume}
+use Rattle.std.proofs.Common.{◌+◌, ◌∷◌, ◌++◌, length, ap, ◌∙◌, ap₂}
+use Rattle.std.specs.Option.{option_map}
+use Rattle.entry.specs.Fields.{check_bytes, long_bytes}
+use Rattle.model.specs.Fresh.{dated}
+use Rattle.model.specs.Models.{stamp_of_date}
+use Rattle.model.proofs.Fields.{field-long}
+use Rattle.unit.proofs.Building.{volume-built}
 use Rattle.unit.proofs.fresh.volume_entry.Goals as goal
 
 pub returns : goal.returns
 returns c =
-    built-volume c.args.name.field c.field.result c.args.date c.args.name.kept (c.field.ensures ∙ c.args.name.padded) _ c.args.blocks c.args.directory
-    _ _ _ _ _ _ refl refl c.set_name_field.ensures c.set_attributes.ensures c.set_check_bytes.ensures c.set_size.ensures c.set_date.ensures
+    let shape = c.args.shape.now in
+    let field = c.field.ensures ∙ shape.name.padded in
+    volume-built c.field.result (ap length field ∙ field-long shape.name.field shape.name.kept) (128 + shape.directory) c.args.date c.from.result _ _ _
+    c.entry_of-entry.ensures c.set_check_bytes.ensures c.set_size.ensures
+    ∙ ap₂ (λ front n. front ++ ((128 + shape.directory) ∷ (check_bytes ++ (long_bytes n ++ (0 ∷ 0 ∷ dated (option_map stamp_of_date c.args.date)))))) field c.from.ensures

@@ -1,30 +1,44 @@
-use Rattle.std.proofs.Common.{◌+◌, ◌-◌, length, replicate, sym, ap, ◌∙◌, subst, ap₂}
-use Rattle.std.specs.Option.{option_map}
+use Rattle.std.proofs.Common.{Err, true, false, ◌≡◌, ◌-◌, length, None, sym, ap, ◌∙◌}
+use Rattle.std.proofs.lemmas.Result.{err_from_is_err_and}
+use Rattle.std.specs.Option.{ok_or, option_map}
+use Rattle.refusal.specs.declared.Refusal.TheVariants.{OutOfRange}
 use Rattle.model.specs.Models.{stamp_of_date}
-use Rattle.unit.specs.Calls.{Writable, cleared}
+use Rattle.unit.specs.Calls.{done, cleared, refusal_on}
 use Rattle.model.proofs.Stages.{facts}
-use Rattle.unit.proofs.Making.{device-is, initialise-decided, initialise-turn, state-is, writable, write-first}
+use Rattle.unit.proofs.Making.{unfit, refused-decided, refused-turn, device-is, initialise-decided, initialise-turn, state-is, write-first}
 use Rattle.unit.proofs.units.PackUnit.initialise.Goals as goal
 
-pub zero_blocks-requires : goal.zero_blocks-requires
-zero_blocks-requires g c =
+pub returns-in_err-work-clause-turn : goal.returns-in_err-work-clause-turn
+returns-in_err-work-clause-turn g c =
     let d = g.D.BlockDevice.meaning c.args.self.now.device in
-    let work = length c.args.work.now in
-    let a = c.in_ok-shape.ensures.reply in
-    let f = facts d work c.args.name.now c.args.directory c.args.blocks a.none in
-    record {
-      writable = subst (Writable d) (sym a.counted) (writable d work c.args.name.now c.args.directory c.args.blocks f);
-      zeros = c.fill.ensures.after (λ y h. h) ∙ ap (λ n. replicate n 0) (c.in_ok-shape.ensures.work ∙ f.full);
-    }
+    let exit = err_from_is_err_and c.from_residual.result c.from_residual.ensures.1 in
+    let other : length c.args.work.now ≡ 1024 → ⊥ = λ q. let never : false ≡ true = c.in_err-work.ensures.variant ∙ c.as_mut_array.ensures.variant.1 q in cc in
+    let is : c.in_err-work.field-0.0 ≡ OutOfRange = (let h = c.in_err-work.ensures.value ∙ ap (λ o. ok_or o OutOfRange) c.in_err-work.ensures.ok_part in cc) in
+    refused-turn c.args.self.now.state d (g.met.D.BlockDevice.wide c.args.self.now.device) (length c.args.work.now) c.args.name.now c.args.directory c.args.blocks OutOfRange
+    (unfit d (length c.args.work.now) c.args.name.now c.args.directory c.args.blocks other) _ (ap done exit.1 ∙ ap (λ e. done (Err e)) (exit.2 ∙ is))
+
+pub returns-in_err-shape-clause-decided : goal.returns-in_err-shape-clause-decided
+returns-in_err-shape-clause-decided g c =
+    let d = g.D.BlockDevice.meaning c.args.self.now.device in
+    let exit = err_from_is_err_and c.from_residual-in_err-shape.result c.from_residual-in_err-shape.ensures.1 in
+    let full : length c.args.work.now ≡ 1024 = c.as_mut_array.ensures.variant.0 (sym c.in_ok-work.ensures.variant) in
+    refused-decided c.args.self.now.state d (g.met.D.BlockDevice.wide c.args.self.now.device) (length c.args.work.now) c.args.name.now c.args.directory c.args.blocks c.in_err-shape.field-0.0
+    (ap (λ n. refusal_on d n c.args.name.now c.args.directory c.args.blocks) full ∙ c.in_err-shape.ensures) _ (ap done exit.1 ∙ ap (λ e. done (Err e)) exit.2)
+
+pub returns-in_err-shape-clause-turn : goal.returns-in_err-shape-clause-turn
+returns-in_err-shape-clause-turn g c =
+    let d = g.D.BlockDevice.meaning c.args.self.now.device in
+    let exit = err_from_is_err_and c.from_residual-in_err-shape.result c.from_residual-in_err-shape.ensures.1 in
+    let full : length c.args.work.now ≡ 1024 = c.as_mut_array.ensures.variant.0 (sym c.in_ok-work.ensures.variant) in
+    refused-turn c.args.self.now.state d (g.met.D.BlockDevice.wide c.args.self.now.device) (length c.args.work.now) c.args.name.now c.args.directory c.args.blocks c.in_err-shape.field-0.0
+    (ap (λ n. refusal_on d n c.args.name.now c.args.directory c.args.blocks) full ∙ c.in_err-shape.ensures) _ (ap done exit.1 ∙ ap (λ e. done (Err e)) exit.2)
 
 pub write_block-requires : goal.write_block-requires
 write_block-requires g c =
     let d = g.D.BlockDevice.meaning c.args.self.now.device in
-    let work = length c.args.work.now in
-    let a = c.in_ok-shape.ensures.reply in
-    let f = facts d work c.args.name.now c.args.directory c.args.blocks a.none in
-    write-first d (g.D.BlockDevice.meaning c.zero_blocks.new.device) work (length c.fill_first.new.work) c.args.directory c.args.blocks c.args.name.now f
-    (c.zero_blocks.ensures ∙ ap (λ k. cleared d 2 (k - 1)) a.counted) (c.fill_first.auto.work ∙ c.fill.ensures.len ∙ c.in_ok-shape.ensures.work ∙ f.full)
+    let a = c.in_ok-shape.ensures in
+    write-first d (g.D.BlockDevice.meaning c.zero_blocks.new.device) 1024 c.args.directory c.args.blocks c.args.name.now
+    (facts c.args.self.now.state d 1024 c.args.name.now c.args.directory c.args.blocks a.none) (c.zero_blocks.ensures ∙ ap (λ k. cleared d 2 (k - 1)) a.counted)
 
 pub returns : goal.returns
 returns g c =
@@ -33,16 +47,17 @@ returns g c =
     let work = length c.args.work.now in
     let name = c.args.name.now in
     let shape = c.in_ok-shape.shape in
-    let a = c.in_ok-shape.ensures.reply in
+    let a = c.in_ok-shape.ensures in
     let small = (g.met.D.BlockDevice.sized c.args.self.now.device).1 in
-    let state = state-is st c.from.result shape.directory (shape.blocks - (1 + c.from-2.result)) c.args.blocks c.args.directory c.free-self.result.records
-    (c.from.ensures ∙ a.sized) a.counted (ap₂ (λ n m. n - (1 + m)) a.sized (c.from-2.ensures ∙ a.counted)) c.free-self.ensures in
+    let full : work ≡ 1024 = c.as_mut_array.ensures.variant.0 (sym c.in_ok-work.ensures.variant) in
+    let none : refusal_on d work name c.args.directory c.args.blocks ≡ None = ap (λ n. refusal_on d n name c.args.directory c.args.blocks) full ∙ a.none in
+    let state = state-is st c.pack.result shape.directory shape.blocks c.args.directory c.args.blocks c.free-self.result.records c.pack.ensures a.counted a.sized c.free-self.ensures in
     let device = device-is d (g.D.BlockDevice.meaning c.zero_blocks.new.device) (g.D.BlockDevice.meaning c.write_block.new.device) name shape.name.field
     c.fill_first.new.work shape.directory shape.blocks c.args.directory c.args.blocks (option_map stamp_of_date st.date) c.zero_blocks.ensures a.counted a.sized
     a.field c.fill_first.ensures c.write_block.ensures in
     record {
-      decided = initialise-decided st d work name c.args.directory c.args.blocks a.none small _ _ state device;
-      turn = initialise-turn st d work name c.args.directory c.args.blocks a.none small _ _ state device;
+      decided = initialise-decided st d work name c.args.directory c.args.blocks none small _ _ state device;
+      turn = initialise-turn st d work name c.args.directory c.args.blocks none small _ _ state device;
       after = (state, device);
-      work = c.fill_first.auto.work ∙ c.fill.ensures.len ∙ c.in_ok-shape.ensures.work;
+      work = c.fill_first.array_long ∙ sym full;
     }

@@ -1,4 +1,4 @@
-use Rattle.std.proofs.Common.{sym, refl, ◌∙◌, subst}
+use Rattle.std.proofs.Common.{sym, ◌∙◌, subst}
 use Rattle.std.proofs.lemmas.Result.{err_from_is_err_and}
 use Rattle.model.specs.Represents.{Turns}
 use Rattle.model.specs.Requests.{set_date}
@@ -6,24 +6,18 @@ use Rattle.unit.specs.Calls.{done}
 use Rattle.unit.proofs.Changing.{dated-turn, undated-turn}
 use Rattle.unit.proofs.units.PackUnit.set_date.Goals as goal
 
-pub returns-in_err-date : goal.returns-in_err-date
-returns-in_err-date g c =
+pub returns-in_err-date-clause-turn : goal.returns-in_err-date-clause-turn
+returns-in_err-date-clause-turn g c =
     let d = g.D.BlockDevice.meaning c.args.self.now.device in
     let st = c.args.self.now.state in
     let exit = err_from_is_err_and c.from_residual.result c.from_residual.ensures.1 in
     let told = c.in_err-date.ensures in
-    record {
-      turn = subst (λ r. Turns st d (set_date c.args.year c.args.month c.args.day) (done r) st d) (sym exit.1)
-          (undated-turn st d (g.met.D.BlockDevice.wide c.args.self.now.device) c.args.year c.args.month c.args.day exit.0 told.0 (exit.2 ∙ told.1));
-      device = refl;
-    }
+    subst (λ r. Turns st d (set_date c.args.year c.args.month c.args.day) (done r) st d) (sym exit.1)
+    (undated-turn st d (g.met.D.BlockDevice.wide c.args.self.now.device) c.args.year c.args.month c.args.day exit.0 told.0 (exit.2 ∙ told.1))
 
-pub returns : goal.returns
-returns g c =
+pub returns-clause-turn : goal.returns-clause-turn
+returns-clause-turn g c =
     let d = g.D.BlockDevice.meaning c.args.self.now.device in
     let st = c.args.self.now.state in
     let told = c.in_ok-date.ensures in
-    record {
-      turn = dated-turn st d (g.met.D.BlockDevice.wide c.args.self.now.device) c.args.year c.args.month c.args.day c.in_ok-date.date told.0 told.1 told.2 told.3;
-      device = refl;
-    }
+    dated-turn st d (g.met.D.BlockDevice.wide c.args.self.now.device) c.args.year c.args.month c.args.day c.in_ok-date.date told.0 told.1 told.2 told.3
