@@ -6,11 +6,11 @@ ghost use Rattle.names.specs.Kept.{stem_field, stem_short, volume_field, volume_
 use crate::given::{characters, same};
 
 // The names of the entries that are no files, which no file may have.
-const BOOT: &[u8] = b"BOOT";
+pub const BOOT: &[u8] = b"BOOT";
 
-const DIRECTORY: &[u8] = b"DIRECTORY";
+pub const DIRECTORY: &[u8] = b"DIRECTORY";
 
-const BLOCKS_LEFT: &[u8] = b"BLOCKS LEFT";
+pub const BLOCKS_LEFT: &[u8] = b"BLOCKS LEFT";
 
 fn is_printable(byte: u8) -> bool
     ensures { result ≡ printable byte }

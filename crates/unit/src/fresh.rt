@@ -7,14 +7,7 @@ ghost use Rattle.std.specs.Option.{option_map};
 
 use crate::shape::Shape;
 use entry::{Attribute, Attributes, BLOCK, Date, ENTRY, Entry};
-use names::{FIELD, VolumeName};
-
-// The names of the entries that are no files.
-const BOOT: &[u8] = b"BOOT";
-
-const DIRECTORY: &[u8] = b"DIRECTORY";
-
-const BLOCKS_LEFT: &[u8] = b"BLOCKS LEFT";
+use names::{BLOCKS_LEFT, BOOT, DIRECTORY, FIELD, VolumeName};
 
 // The bytes that are used of the last block where all are.
 const FULL: u16 = 1024;
