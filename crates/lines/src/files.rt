@@ -1,9 +1,9 @@
 // The line that is printed of a file.
-ghost use Rattle.std.specs.Prelude.{◌≡◌, IfOk, if◌then◌else◌, string_bytes, codes, decimal};
+ghost use Rattle.std.specs.Prelude.{◌≡◌, IfOk, string_bytes};
+ghost use Rattle.std.specs.Str.{IsAscii};
 ghost use Rattle.lines.specs.Rows.{date_text, length_text, letters as letters_of, name_text, place_text, row_text, state_columns, state_text};
-ghost use Rattle.lines.specs.Texts.{escaped as escaped_of, left as left_of, right as right_of};
 
-use crate::texts::{escaped, left, right, two};
+use crate::texts::escaped;
 use entry::{Attribute, Attributes, Entry, Stamp};
 use names::characters;
 use std::alloc::{AllocError, Global};
@@ -11,44 +11,39 @@ use std::alloc::{AllocError, Global};
 // What stands above the lines of files.
 pub const HEADINGS: &str = "entry  name          state    attributes  first   room    length  date";
 
-// A letter for an attribute that is set, a dash for one that is not.
-fn flag<'a>(set: bool, letter: &'a str) -> &'a str
-    ensures { result.now ≡ (if set then letter.now else codes "-") }
-{
-    if set { letter } else { "-" }
-}
+// The letter of each attribute, from the highest bit down.
+const LETTERS: [(Attribute, char); 8] = [
+    (Attribute::Locked, 'L'),
+    (Attribute::WriteProtected, 'W'),
+    (Attribute::ReadProtected, 'R'),
+    (Attribute::User, 'U'),
+    (Attribute::System, 'S'),
+    (Attribute::Deleted, 'D'),
+    (Attribute::ExecuteProtected, 'X'),
+    (Attribute::BlocksLeft, 'B'),
+];
 
-// The attributes in letters.
+// The attributes in letters, with a dash for each that is not set.
 fn letters(heap: Global, of: Attributes) -> Result<String, AllocError>
-    ensures { IfOk result (λ t. string_bytes t ≡ letters_of of.byte) }
+    ensures value { IfOk result (λ t. string_bytes t ≡ letters_of of.byte) }
+    ensures ascii { IfOk result (λ t. IsAscii (string_bytes t)) }
 {
-    let locked = flag(of.has(Attribute::Locked), "L");
-    let write = flag(of.has(Attribute::WriteProtected), "W");
-    let read = flag(of.has(Attribute::ReadProtected), "R");
-    let user = flag(of.has(Attribute::User), "U");
-    let system = flag(of.has(Attribute::System), "S");
-    let deleted = flag(of.has(Attribute::Deleted), "D");
-    let execute = flag(of.has(Attribute::ExecuteProtected), "X");
-    let blocks_left = flag(of.has(Attribute::BlocksLeft), "B");
-    format!(in heap; "{locked}{write}{read}{user}{system}{deleted}{execute}{blocks_left}")
-}
-
-// Bytes of a name in a column of that width.
-fn name_column(heap: Global, width: usize, bytes: &[u8]) -> Result<String, AllocError>
-    ensures { IfOk result (λ t. string_bytes t ≡ left_of width (escaped_of bytes.now)) }
-{
-    let text = escaped(heap, bytes)?;
-    left(heap, width, text.as_str())
+    let mut text = String::new(heap);
+    for (attribute, letter) in &LETTERS {
+        text.push(if of.has(*attribute) { *letter } else { '-' })?;
+    }
+    Ok(text)
 }
 
 // A name with its type letter, the last character, set apart.
 fn name_text(heap: Global, name: &[u8]) -> Result<String, AllocError>
     ensures { IfOk result (λ t. string_bytes t ≡ name_text name.now) }
 {
+    // Not `split_last`: an empty name has no last character, and its columns are filled all the same.
     let (stem, type_letter) = name.split_at(name.len().saturating_sub(1));
-    let stem = name_column(heap, 10, stem)?;
-    let type_letter = name_column(heap, 1, type_letter)?;
-    format!(in heap; "{stem} {type_letter}")
+    let stem = escaped(heap, stem)?;
+    let type_letter = escaped(heap, type_letter)?;
+    format!(in heap; "{stem:<10} {type_letter:<1}")
 }
 
 fn state_text(attributes: Attributes) -> &'static str
@@ -68,15 +63,14 @@ pub fn date_text(heap: Global, stamp: Option<Stamp>) -> Result<String, AllocErro
     let Some(stamp) = stamp else {
         return String::from_str(heap, "-");
     };
-    let year = stamp.year;
-    let month = two(heap, stamp.month)?;
-    let day = two(heap, stamp.day)?;
-    format!(in heap; "{year}-{month}-{day}")
+    let Stamp { year, month, day } = stamp;
+    format!(in heap; "{year}-{month:02}-{day:02}")
 }
 
 // The length of a live file; a deleted one has none to speak of.
 fn length_text(heap: Global, entry: &Entry) -> Result<String, AllocError>
-    ensures { IfOk result (λ t. string_bytes t ≡ length_text entry.now.bytes) }
+    ensures value { IfOk result (λ t. string_bytes t ≡ length_text entry.now.bytes) }
+    ensures ascii { IfOk result (λ t. IsAscii (string_bytes t)) }
 {
     if entry.attributes().has(Attribute::Deleted) {
         return String::from_str(heap, "-");
@@ -91,38 +85,28 @@ fn length_text(heap: Global, entry: &Entry) -> Result<String, AllocError>
 fn state_columns(heap: Global, entry: &Entry) -> Result<String, AllocError>
     ensures { IfOk result (λ t. string_bytes t ≡ state_columns entry.now.bytes) }
 {
-    let state = left(heap, 7, state_text(entry.attributes()))?;
+    let state = state_text(entry.attributes());
     let letters = letters(heap, entry.attributes())?;
-    let letters = left(heap, 10, letters.as_str())?;
-    format!(in heap; "{state}  {letters}")
-}
-
-fn number_column(heap: Global, width: usize, n: u32) -> Result<String, AllocError>
-    ensures { IfOk result (λ t. string_bytes t ≡ right_of width (decimal n)) }
-{
-    let text = n.to_string(heap)?;
-    right(heap, width, text.as_str())
+    format!(in heap; "{state:<7}  {letters:<10}")
 }
 
 // Where a file lies and how long it is.
 fn place_columns(heap: Global, entry: &Entry) -> Result<String, AllocError>
     ensures { IfOk result (λ t. string_bytes t ≡ place_text entry.now.bytes) }
 {
-    let first = number_column(heap, 5, entry.first_block())?;
-    let room = number_column(heap, 5, u32::from(entry.room()))?;
+    let first = entry.first_block();
+    let room = entry.room();
     let length = length_text(heap, entry)?;
-    let length = right(heap, 8, length.as_str())?;
-    format!(in heap; "{first}  {room}  {length}")
+    format!(in heap; "{first:>5}  {room:>5}  {length:>8}")
 }
 
 // The line of a file: the number of its entry, and what the entry says.
 pub fn row(heap: Global, number: u32, entry: &Entry) -> Result<String, AllocError>
     ensures { IfOk result (λ t. string_bytes t ≡ row_text number entry.now.bytes) }
 {
-    let number = number_column(heap, 5, number)?;
     let name = name_text(heap, characters(entry.name_field()))?;
     let state = state_columns(heap, entry)?;
     let place = place_columns(heap, entry)?;
     let date = date_text(heap, entry.stamp())?;
-    format!(in heap; "{number}  {name}  {state}  {place}  {date}")
+    format!(in heap; "{number:>5}  {name}  {state}  {place}  {date}")
 }

@@ -1,7 +1,7 @@
 use Rattle.std.proofs.Common.{ap, ◌∙◌, arith}
 use Rattle.std.proofs.lemmas.List.{take_all}
 use Rattle.lines.specs.Texts.{escaped}
-use Rattle.lines.proofs.Pieces.{escaped-more}
+use Rattle.lines.proofs.Escaping.{escaped-more}
 use Rattle.lines.proofs.texts.escaped.Goals as goal
 
 pub loop-byte-preserved : goal.loop-byte-preserved
