@@ -15,11 +15,11 @@ module _ (P : List ℕ → Bool) (bytes : List ℕ) where
   count-more e to count next whole false h p n l i = (omega (arith, step e (to - e) (to - (e + 1)) false (omega arith) p), omega arith)
 
 module _ (bytes : List ℕ) where
-  pub rows_more : (e to : ℕ) (out line after whole : List ℕ) → e < to → line ≡ row_text e (entry_at bytes e) → after ≡ (out ++ line) ++ codes "\n"
+  pub rows_more : (e to : ℕ) (out line after whole : List ℕ) → e < to → line ≡ row_text e (entry_at bytes e) → after ≡ out ++ (line ++ codes "\n")
       → out ++ rows_text bytes e (to - e) ≡ whole → after ++ rows_text bytes (e + 1) (to - (e + 1)) ≡ whole
   rows_more e to out line after whole h l a i =
       let more : to - e ≡ suc (to - (e + 1)) = omega arith in
       let rest = rows_text bytes (e + 1) (to - (e + 1)) in
-      ap (λ z. z ++ rest) a ∙ append_assoc (out ++ line) (codes "\n") rest ∙ append_assoc out line (codes "\n" ++ rest)
+      ap (λ z. z ++ rest) a ∙ append_assoc out (line ++ codes "\n") rest ∙ ap (λ z. out ++ z) (append_assoc line (codes "\n") rest)
       ∙ ap (λ z. out ++ (z ++ (codes "\n" ++ rest))) l
       ∙ ap (λ n. out ++ rows_text bytes e n) (sym more) ∙ i

@@ -1,5 +1,6 @@
 pub mod Counting
 pub mod Finding
+pub mod Joining
 pub mod Loading
 pub mod Pieces
 pub mod Walking

@@ -1,6 +1,6 @@
 -- The directory read block by block, one block on and at the end, and how long it is. Assumes nothing.
-use Rattle.std.proofs.Common.{◌≡◌, ℕ, zero, suc, ◌+◌, ◌-◌, ◌*◌, ◌<◌, ◌≤◌, Bool, true, false, cond, eqb, ltb, leb, List, [], ◌++◌, length, Some, None, Ok, Err, Option, Result, sym, refl, ap, ◌∙◌, arith}
-use Rattle.std.proofs.lemmas.List.{length-append}
+use Rattle.std.proofs.Common.{◌≡◌, ℕ, zero, suc, ◌+◌, ◌-◌, ◌*◌, ◌<◌, ◌≤◌, Bool, true, false, cond, eqb, ltb, leb, List, [], ◌++◌, length, Some, None, Ok, Err, Option, Result, sym, refl, ap, ◌∙◌, subst, arith}
+use Rattle.std.proofs.lemmas.List.{length-append, take_all}
 use Rattle.std.proofs.lemmas.Bool.{and_parts, le-leb, leb-true, ltb-true}
 use Rattle.std.specs.Str.{bytes_eq}
 use Rattle.refusal.specs.declared.Refusal.{Refusal}
@@ -8,33 +8,26 @@ use Rattle.refusal.specs.declared.Refusal.TheVariants.{BrokenLayout}
 use Rattle.blocks.specs.Devices.{Device, block_at, in_range, mark_at, mark_fault, read_fault, size_of}
 use Rattle.blocks.specs.declared.faults.Fault.{Fault}
 use Rattle.blocks.specs.declared.faults.Fault.TheVariants.{OutOfRange}
-use Rattle.entry.specs.Fields.{check_bytes, check_of, directory_of}
-use Rattle.listing.specs.Loads.{Appends, Extends, Loads, counted, loaded, more, read_block, then, unless, volume_holds, volume_loaded}
+use Rattle.entry.specs.Fields.{check_bytes, check_of, directory_of, entry_in}
+use Rattle.listing.specs.Loads.{Extends, Loads, Read, counted, loaded, more, read_block, then, unless, volume_holds, volume_loaded}
 use Rattle.listing.specs.Walks.{entry_at}
 use Rattle.listing.specs.declared.failure.Failure.{Failure}
 use Rattle.listing.specs.declared.failure.Failure.TheVariants.{Memory, Refused}
 
-module _ (d : Device) (b : ℕ) (xs ys : List ℕ) where
-  -- a block that was read leaves it to the rest
-  pub more-on : (n m : ℕ) → n ≡ suc m → Appends (Ok tt) xs ys (read_block d b) → more d (b + 1) m ys ≡ more d b n xs
-  more-on n m e a = go (read_block d b) a ∙ sym (ap (λ k. more d b k xs) e)
-    where
-      go : (o : Result (List ℕ) Refusal) → Appends (Ok tt) xs ys o → more d (b + 1) m ys ≡ then o (λ block. more d (b + 1) m (xs ++ block))
-      go (Ok block) h = ap (more d (b + 1) m) h
-      go (Err refusal) h = absurd h
+-- a block that was read leaves it to the rest
+pub more-on : (d : Device) (b : ℕ) (xs block : List ℕ) (n m : ℕ) → n ≡ suc m → Ok block ≡ read_block d b → more d (b + 1) m (xs ++ block) ≡ more d b n xs
+more-on d b xs block n m e a = ap (λ o. then o (λ c. more d (b + 1) m (xs ++ c))) a ∙ sym (ap (λ k. more d b k xs) e)
 
-  -- one that was refused ends it
-  pub more-ends : (f : Failure) (n m : ℕ) (whole : Result (List ℕ) Refusal) → n ≡ suc m → Appends (Err f) xs ys (read_block d b) → more d b n xs ≡ whole
-      → Extends (Err f) ys whole
-  more-ends Memory n m whole e a w = tt
-  more-ends (Refused refusal) n m whole e a w = ap (λ o. then o (λ block. more d (b + 1) m (xs ++ block))) a ∙ sym (ap (λ k. more d b k xs) e) ∙ w
+-- one that was refused ends it
+pub more-ends : (d : Device) (b : ℕ) (xs : List ℕ) (refusal : Refusal) (n m : ℕ) → n ≡ suc m → Err refusal ≡ read_block d b → Err refusal ≡ more d b n xs
+more-ends d b xs refusal n m e a = ap (λ o. then o (λ c. more d (b + 1) m (xs ++ c))) a ∙ sym (ap (λ k. more d b k xs) e)
 
 pub more-all : (d : Device) (b n : ℕ) (xs : List ℕ) (whole : Result (List ℕ) Refusal) → n ≡ 0 → more d b n xs ≡ whole → Ok xs ≡ whole
 more-all d b n xs whole e w = sym (ap (λ k. more d b k xs) e) ∙ w
 
 -- a block that was read has 1,024 bytes
 module _ (d : Device) (wide : (b : ℕ) → b < size_of d → length (block_at d b) ≡ 1024) where
-  block-long : (b : ℕ) (block : List ℕ) → Ok block ≡ read_block d b → length block ≡ 1024
+  pub block-long : (b : ℕ) (block : List ℕ) → Ok block ≡ read_block d b → length block ≡ 1024
   block-long b block e = ap length (is (read_fault d b 1024) e) ∙ wide b (inside (in_range d b 1024) refl (none (read_fault d b 1024) e))
     where
       is : (o : Option Fault) → Ok block ≡ unless (block_at d b) o → block ≡ block_at d b
@@ -51,46 +44,35 @@ module _ (d : Device) (wide : (b : ℕ) → b < size_of d → length (block_at d
           let never : Some (OutOfRange b) ≡ None = sym (ap (λ t. cond t (mark_fault (mark_at d b)) (Some (OutOfRange b))) h) ∙ o in
           absurd (let z : ◌≡◌ {A = ℕ} 0 1 = cc in omega arith)
 
-  pub appended-long : (b : ℕ) (xs ys : List ℕ) → Appends (Ok tt) xs ys (read_block d b) → length ys ≡ length xs + 1024
-  appended-long b xs ys a = go (read_block d b) refl a
-    where
-      go : (o : Result (List ℕ) Refusal) → o ≡ read_block d b → Appends (Ok tt) xs ys o → length ys ≡ length xs + 1024
-      go (Ok block) e h = ap length h ∙ length-append xs block ∙ ap (λ n. length xs + n) (block-long b block e)
-      go (Err refusal) e h = absurd h
-
-  long-step : (n b : ℕ) (xs ys : List ℕ) (o : Result (List ℕ) Refusal) → o ≡ read_block d b
-      → ((us vs : List ℕ) → Ok vs ≡ more d (b + 1) n us → length vs ≡ length us + 1024 * n)
-      → Ok ys ≡ then o (λ block. more d (b + 1) n (xs ++ block)) → length ys ≡ length xs + 1024 * suc n
-  long-step n b xs ys (Ok block) q rest h = omega (arith, rest (xs ++ block) ys h, length-append xs block, block-long b block q)
-  long-step n b xs ys (Err refusal) q rest h = absurd (let z : ◌≡◌ {A = ℕ} 0 1 = cc in omega arith)
-
-  pub more-long : (n b : ℕ) (xs ys : List ℕ) → Ok ys ≡ more d b n xs → length ys ≡ length xs + 1024 * n
-  more-long zero b xs ys e = ap length (let same : ys ≡ xs = cc in same) ∙ (let z : length xs ≡ length xs + 1024 * zero = omega arith in z)
-  more-long (suc n) b xs ys e = long-step n b xs ys (read_block d b) refl (more-long n (b + 1)) e
+-- the volume's entry, in the first block
+pub entry-first : (first : List ℕ) → length first ≡ 1024 → entry_in first 0 ≡ entry_at first 0
+entry-first first l = ap (λ b. entry_in b 0) (sym (take_all 1024 first (omega arith)))
 
 pub volume-some : (n : ℕ) (bytes : List ℕ) → volume_holds n bytes ≡ true → 1 ≤ directory_of bytes
 volume-some n bytes h = leb-true 1 (directory_of bytes) (and_parts (leb 1 (directory_of bytes)) _ (and_parts (bytes_eq (check_of bytes) check_bytes) _ h).1).0
 
--- the first block of the directory
-module _ (d : Device) (least : 2 ≤ size_of d) where
-  begun : loaded d ≡ then (read_block d 1) (volume_loaded d)
-  begun = ap (λ t. cond t (then (read_block d 1) (volume_loaded d)) (Err (BrokenLayout 0))) (le-leb 2 (size_of d) least)
+-- what follows where the first block was read
+module _ (d : Device) (first : List ℕ) (least : 2 ≤ size_of d) (read : Ok first ≡ read_block d 1) where
+  loaded-on : volume_loaded d first ≡ loaded d
+  loaded-on =
+      ap (λ o. then o (volume_loaded d)) read
+      ∙ sym (ap (λ t. cond t (then (read_block d 1) (volume_loaded d)) (Err (BrokenLayout 0))) (le-leb 2 (size_of d) least))
 
-  pub loaded-first : (xs ys : List ℕ) → xs ≡ [] → Appends (Ok tt) xs ys (read_block d 1) → volume_loaded d ys ≡ loaded d
-  loaded-first xs ys e a = go (read_block d 1) a ∙ sym begun
-    where
-      go : (o : Result (List ℕ) Refusal) → Appends (Ok tt) xs ys o → volume_loaded d ys ≡ then o (volume_loaded d)
-      go (Ok block) h = ap (volume_loaded d) (h ∙ ap (λ l. l ++ block) e)
-      go (Err refusal) h = absurd h
+  pub volume-broken : volume_holds (size_of d) (entry_at first 0) ≡ false → Err (BrokenLayout 0) ≡ loaded d
+  volume-broken h = sym (ap (λ t. cond t (counted (directory_of (entry_at first 0)) (more d 2 (directory_of (entry_at first 0) - 1) first)) (Err (BrokenLayout 0))) h) ∙ loaded-on
 
-  pub loaded-ends : (f : Failure) (xs ys : List ℕ) → Appends (Err f) xs ys (read_block d 1) → Loads (Err f) (loaded d)
-  loaded-ends Memory xs ys a = tt
-  loaded-ends (Refused refusal) xs ys a = ap (λ o. then o (volume_loaded d)) a ∙ sym begun
+  pub volume-on : (count : ℕ) → volume_holds (size_of d) (entry_at first 0) ≡ true → count ≡ directory_of (entry_at first 0)
+      → counted count (more d 2 (count - 1) first) ≡ loaded d
+  volume-on count h e =
+      ap (λ n. counted n (more d 2 (n - 1) first)) e
+      ∙ sym (ap (λ t. cond t (counted (directory_of (entry_at first 0)) (more d 2 (directory_of (entry_at first 0) - 1) first)) (Err (BrokenLayout 0))) h)
+      ∙ loaded-on
 
--- the directory that the volume's entry names
-pub volume-read : (d : Device) (xs ys : List ℕ) (blocks : ℕ) → volume_holds (size_of d) (entry_at xs 0) ≡ true → blocks ≡ directory_of (entry_at xs 0)
-    → Ok ys ≡ more d 2 (blocks - 1) xs → Ok (record { bytes = ys; blocks = blocks }) ≡ volume_loaded d xs
-volume-read d xs ys blocks holds e m =
-    ap (counted blocks) m
-    ∙ ap (λ n. counted n (more d 2 (n - 1) xs)) e
-    ∙ sym (ap (λ t. cond t (counted (directory_of (entry_at xs 0)) (more d 2 (directory_of (entry_at xs 0) - 1) xs)) (Err (BrokenLayout 0))) holds)
+  pub volume-ends : (f : Failure) (after ys : List ℕ) (count : ℕ) → volume_holds (size_of d) (entry_at first 0) ≡ true → count ≡ directory_of (entry_at first 0)
+      → ys ≡ first → Extends (Err f) after (more d 2 (count - 1) ys) → Loads (Err f) (loaded d)
+  volume-ends Memory after ys count h e s x = tt
+  volume-ends (Refused refusal) after ys count h e s x =
+      ap (counted count) (x ∙ ap (more d 2 (count - 1)) s) ∙ volume-on count h e
+
+pub refused : (f : Failure) (refusal : Refusal) (o : Result Read Refusal) → f ≡ Refused refusal → Err refusal ≡ o → Loads (Err f) o
+refused f refusal o e h = subst (λ x. Loads (Err x) o) (sym e) h

@@ -13,8 +13,7 @@ use Rattle.entry.specs.declared.stamp.Stamp.{Stamp}
 use Rattle.lines.specs.Rows.{date_text, headings, row_text}
 use Rattle.lines.specs.Texts.{counted, escaped}
 use Rattle.listing.specs.Loads.{loaded, then}
-use Rattle.listing.specs.Walks.{directory_walked, entry_at, is_deleted}
-use Rattle.listing.specs.declared.walk.Found.{Found}
+use Rattle.listing.specs.Walks.{Found, directory_walked, entry_at, is_deleted}
 
 abbrev pub count_that : (List ℕ → Bool) → List ℕ → ℕ → ℕ → ℕ
 count_that test bytes e zero = 0

@@ -10,11 +10,10 @@ use Rattle.names.specs.Names.{fits_stem, fits_whole, is_stem, is_whole}
 use Rattle.entry.specs.Fields.{name_of}
 use Rattle.lines.specs.Rows.{row_text}
 use Rattle.listing.specs.Loads.{loaded, then}
-use Rattle.listing.specs.Walks.{directory_walked, first_that, entry_at, is_deleted}
+use Rattle.listing.specs.Walks.{Found, directory_walked, first_that, entry_at, is_deleted}
 use Rattle.listing.specs.declared.finds.Fit.{Fit}
 use Rattle.listing.specs.declared.finds.Fit.TheVariants.{Whole, Stem}
 use Rattle.listing.specs.declared.finds.Match.{Match}
-use Rattle.listing.specs.declared.walk.Found.{Found}
 
 abbrev pub live_whole : List ℕ → List ℕ → Bool
 live_whole name bytes = not (is_deleted bytes) && fits_whole name (name_of bytes)

@@ -2,4 +2,5 @@ pub mod Answered
 pub mod Catalogues
 pub mod Finds
 pub mod Loads
+pub mod Walked
 pub mod Walks

@@ -4,7 +4,8 @@
 --   Read           the bytes of the directory's blocks, one after the other, and how many blocks that is
 --   loaded         the directory of a device, or why it cannot be had
 --   Loads          how the code's answer stands to that
-use Rattle.std.specs.Prelude.{◌≡◌, ℕ, zero, suc, ◌+◌, ◌-◌, ◌*◌, ◌<◌, ◌≤◌, Bool, cond, ◌&&◌, List, ◌++◌, length, Some, None, Ok, Err, vec_items, Option, Result, nat_le}
+use Rattle.std.specs.Prelude.{◌≡◌, ℕ, zero, suc, ◌+◌, ◌-◌, Bool, cond, ◌&&◌, List, ◌++◌, length, Some, None, Ok, Err, vec_items, Option, Result, nat_le}
+use Rattle.std.specs.List.{concat}
 use Rattle.std.specs.Str.{bytes_eq}
 use Rattle.refusal.specs.declared.Refusal.{Refusal}
 use Rattle.refusal.specs.declared.Refusal.TheVariants.{BrokenLayout}
@@ -14,7 +15,7 @@ use Rattle.entry.specs.Fields.{check_bytes, check_of, directory_of, size_of as v
 use Rattle.listing.specs.Walks.{entry_at}
 use Rattle.listing.specs.declared.failure.Failure.{Failure}
 use Rattle.listing.specs.declared.failure.Failure.TheVariants.{Memory, Refused}
-use Rattle.listing.specs.declared.load.Directory.{Directory}
+use Rattle.listing.specs.declared.directory.Directory.{Directory}
 
 -- One after the other; the first refusal ends it.
 abbrev pub then : {X Y : Type 0} → Result X Refusal → (X → Result Y Refusal) → Result Y Refusal
@@ -59,28 +60,15 @@ abbrev pub loaded : Device → Result Read Refusal
 loaded d = cond (nat_le 2 (size_of d)) (then (read_block d 1) (volume_loaded d)) (Err (BrokenLayout 0))
 
 abbrev pub as_read : Directory → Read
-as_read v = record { bytes = vec_items v.bytes; blocks = v.blocks }
+as_read v = record { bytes = concat (vec_items v.blocks); blocks = length (vec_items v.blocks) }
 
 abbrev pub Loads : Result Directory Failure → Result Read Refusal → Type 0
 Loads (Ok v) defined = Ok (as_read v) ≡ defined
 Loads (Err Memory) defined = Unit {0}
 Loads (Err (Refused refusal)) defined = Err refusal ≡ defined
 
--- A block that was read stands behind what was there.
-abbrev pub Appends : Result (Unit {0}) Failure → List ℕ → List ℕ → Result (List ℕ) Refusal → Type 0
-Appends (Ok done) before after (Ok block) = after ≡ before ++ block
-Appends (Ok done) before after (Err refusal) = ⊥
-Appends (Err Memory) before after defined = Unit {0}
-Appends (Err (Refused refusal)) before after defined = Err refusal ≡ defined
-
 -- What was read after the last of some blocks.
 abbrev pub Extends : Result (Unit {0}) Failure → List ℕ → Result (List ℕ) Refusal → Type 0
 Extends (Ok done) after defined = Ok after ≡ defined
 Extends (Err Memory) after defined = Unit {0}
 Extends (Err (Refused refusal)) after defined = Err refusal ≡ defined
-
--- What was read is a directory of 1 to 127 blocks.
-pub record Holds (v : Directory) : Type 0 where
-  pub some : 1 ≤ v.blocks
-  pub few : v.blocks < 128
-  pub long : 1024 * v.blocks ≤ length (vec_items v.bytes)

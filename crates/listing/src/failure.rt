@@ -3,7 +3,7 @@ ghost use Rattle.listing.specs.declared.failure.Failure.TheVariants.{Memory, Ref
 ghost use Rattle.std.specs.Prelude.{◌≡◌};
 
 use refusal::Refusal;
-use std::alloc::AllocError;
+use std::alloc::{AllocError, AllocFailed};
 
 #[derive(Clone, Copy, PartialEq, Eq, Debug)]
 pub enum Failure {
@@ -17,6 +17,14 @@ impl From<AllocError> for Failure {
     ghost from_gives = { λ _ r. r ≡ Memory };
 
     fn from(_e: AllocError) -> Failure {
+        Failure::Memory
+    }
+}
+
+impl<T: Drop> From<AllocFailed<T>> for Failure {
+    ghost from_gives = { λ _ r. r ≡ Memory };
+
+    fn from(_e: AllocFailed<T>) -> Failure {
         Failure::Memory
     }
 }

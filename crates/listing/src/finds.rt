@@ -1,45 +1,19 @@
 // Finding a live file of a pack by its whole name or by its stem.
-ghost use Rattle.std.specs.Prelude.{◌≡◌, ◌+◌, ◌-◌, ◌*◌, ◌/◌, ◌<◌, ◌≤◌, length, IfSome, IfOk};
+ghost use Rattle.std.specs.Prelude.{◌≡◌, ◌<◌, IfSome, IfOk, Some, Ok, Err, if◌then◌else◌};
+ghost use Rattle.names.specs.Names.{is_stem, is_whole};
+ghost use Rattle.refusal.specs.declared.Refusal.TheVariants.{BadName};
 ghost use Rattle.listing.specs.Answered.{Answers};
-ghost use Rattle.listing.specs.Finds.{by_stem, by_whole, fit_text, found_text, live_stem, live_whole, looked_up, match_text};
+ghost use Rattle.listing.specs.Finds.{by_stem, by_whole, fit_text, found_text, looked_up, match_text};
 
 use crate::failure::Failure;
+use crate::files::{Files, is_deleted};
 use crate::load::load;
-use crate::walk::{Test, entry_at, first, walk_directory};
 use blocks::BlockDevice;
-use entry::{Attribute, Entry};
 use lines::row;
 use names::{Stem, WholeName};
 use refusal::Refusal;
 use std::alloc::Global;
-
-// A live file of that whole name.
-#[derive(Clone, Copy)]
-struct LiveWhole {
-    name: WholeName,
-}
-
-impl Test for LiveWhole {
-    ghost passes = { λ key. live_whole key.name.field };
-
-    fn test(&self, entry: &Entry) -> bool {
-        !entry.attributes().has(Attribute::Deleted) && self.name.fits(entry.name_field())
-    }
-}
-
-// A live file of that stem.
-#[derive(Clone, Copy)]
-struct LiveStem {
-    stem: Stem,
-}
-
-impl Test for LiveStem {
-    ghost passes = { λ key. live_stem key.stem.field };
-
-    fn test(&self, entry: &Entry) -> bool {
-        !entry.attributes().has(Attribute::Deleted) && self.stem.fits(entry.name_field())
-    }
-}
+use std::fmt;
 
 // By what a file was found.
 #[derive(Clone, Copy, PartialEq, Eq, Debug)]
@@ -55,79 +29,76 @@ pub(crate) struct Match {
     pub fit: Fit,
 }
 
-// The first live file before entry `left` that the name fits as a whole name.
-fn by_whole(bytes: &[u8], left: u32, given: &[u8]) -> Option<u32>
-    requires { 1024 * (1 + (left - 1) / 39) ≤ length bytes.now }
-    ensures value { result ≡ by_whole bytes.now left given.now }
-    ensures before { IfSome result (λ e. e < left) }
-{
-    let Ok(name) = WholeName::new(given) else {
-        return None;
-    };
-    first(bytes, &LiveWhole { name }, 3, left)
-}
+impl Files {
+    ghost use Rattle.listing.specs.Walked.{bytes_of};
 
-// The first live file before entry `left` that the name fits as a stem.
-fn by_stem(bytes: &[u8], left: u32, given: &[u8]) -> Option<u32>
-    requires { 1024 * (1 + (left - 1) / 39) ≤ length bytes.now }
-    ensures value { result ≡ by_stem bytes.now left given.now }
-    ensures before { IfSome result (λ e. e < left) }
-{
-    let Ok(stem) = Stem::new(given) else {
-        return None;
-    };
-    first(bytes, &LiveStem { stem }, 3, left)
-}
-
-// The file by its whole name or, where none fits, by its stem: the name without its type letter.
-fn look_up(bytes: &[u8], left: u32, given: &[u8]) -> Result<Match, Refusal>
-    requires { 1024 * (1 + (left - 1) / 39) ≤ length bytes.now }
-    ensures value { result ≡ looked_up bytes.now left given.now }
-    ensures before { IfOk result (λ m. m.number < left) }
-{
-    if WholeName::new(given).is_err() && Stem::new(given).is_err() {
-        return Err(Refusal::BadName);
+    // The first live file that the name fits as a whole name.
+    fn by_whole(&self, given: &[u8]) -> Result<Option<u32>, Refusal>
+        ensures value { result ≡ (if is_whole given.now then Ok (by_whole (bytes_of self.now.directory) self.now.left given.now) else Err BadName) }
+        ensures before { IfOk result (λ found. IfSome found (λ e. e < self.now.left)) }
+    {
+        let name = WholeName::new(given)?;
+        Ok(self.directory.first(3, self.left, |entry| {
+            !is_deleted(entry) && name.fits(entry.name_field())
+        }))
     }
-    if let Some(number) = by_whole(bytes, left, given) {
-        return Ok(Match {
-            number,
-            fit: Fit::Whole,
-        });
-    }
-    let Some(number) = by_stem(bytes, left, given) else {
-        return Err(Refusal::NoSuchFile);
-    };
-    Ok(Match {
-        number,
-        fit: Fit::Stem,
-    })
-}
 
-fn fit_text(fit: Fit) -> &'static str
-    ensures { result.now ≡ fit_text fit }
-{
-    match fit {
-        Fit::Whole => "Found by its whole name.",
-        Fit::Stem => "Found by its stem; no live file has that whole name.",
+    // The first live file that the name fits as a stem.
+    fn by_stem(&self, given: &[u8]) -> Result<Option<u32>, Refusal>
+        ensures value { result ≡ (if is_stem given.now then Ok (by_stem (bytes_of self.now.directory) self.now.left given.now) else Err BadName) }
+        ensures before { IfOk result (λ found. IfSome found (λ e. e < self.now.left)) }
+    {
+        let stem = Stem::new(given)?;
+        Ok(self.directory.first(3, self.left, |entry| {
+            !is_deleted(entry) && stem.fits(entry.name_field())
+        }))
+    }
+
+    // The file by its whole name or, where none fits, by its stem: the name without its type letter.
+    fn look_up(&self, given: &[u8]) -> Result<Match, Refusal>
+        ensures value { result ≡ looked_up (bytes_of self.now.directory) self.now.left given.now }
+        ensures before { IfOk result (λ m. m.number < self.now.left) }
+    {
+        match (self.by_whole(given), self.by_stem(given)) {
+            (Ok(Some(number)), _) => Ok(Match {
+                number,
+                fit: Fit::Whole,
+            }),
+            (_, Ok(Some(number))) => Ok(Match {
+                number,
+                fit: Fit::Stem,
+            }),
+            (Err(refusal), Err(_)) => Err(refusal),
+            _ => Err(Refusal::NoSuchFile),
+        }
+    }
+
+    // The line of the file that a name finds, and by what it was found.
+    fn match_text(&self, heap: Global, given: &[u8]) -> Result<String, Failure>
+        ensures { Answers result (match_text (bytes_of self.now.directory) (looked_up (bytes_of self.now.directory) self.now.left given.now)) }
+    {
+        let Match { number, fit } = self.look_up(given)?;
+        let line = row(heap, number, &self.directory.entry(number))?;
+        Ok(format!(in heap; "{line}\n{fit}\n")?)
     }
 }
 
-// The line of the file that a name finds, and by what it was found.
-fn match_text(heap: Global, bytes: &[u8], left: u32, given: &[u8]) -> Result<String, Failure>
-    requires { 1024 * (1 + (left - 1) / 39) ≤ length bytes.now }
-    ensures { Answers result (match_text bytes.now (looked_up bytes.now left given.now)) }
-{
-    let hit = look_up(bytes, left, given)?;
-    let line = row(heap, hit.number, &entry_at(bytes, hit.number))?;
-    let fit = fit_text(hit.fit);
-    Ok(format!(in heap; "{line}\n{fit}\n")?)
+impl fmt::Display for Fit {
+    ghost output = { λ fit. Some (fit_text fit) };
+
+    fn fmt<W: fmt::Write>(&self, f: &mut fmt::Formatter<W>) -> fmt::Result {
+        let words = match self {
+            Fit::Whole => "Found by its whole name.",
+            Fit::Stem => "Found by its stem; no live file has that whole name.",
+        };
+        write!(f, "{words}")
+    }
 }
 
 // Finds a live file of a pack by its name.
 pub fn find<D: BlockDevice>(heap: Global, device: &D, given: &[u8]) -> Result<String, Failure>
     ensures { Answers result (found_text (D.BlockDevice.meaning device.now) given.now) }
 {
-    let directory = load(heap, device)?;
-    let found = walk_directory(directory.bytes.as_slice(), directory.blocks)?;
-    match_text(heap, directory.bytes.as_slice(), found.left, given)
+    let files = Files::of(load(heap, device)?)?;
+    files.match_text(heap, given)
 }

@@ -2,10 +2,11 @@
 #![tactic(auto)]
 
 mod catalogues;
+mod directory;
 mod failure;
+mod files;
 mod finds;
 mod load;
-mod walk;
 
 pub use catalogues::catalogue;
 pub use failure::Failure;

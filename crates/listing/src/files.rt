@@ -1,0 +1,46 @@
+// The walk through a directory, and the files that it finds.
+ghost use Rattle.std.specs.Prelude.{◌≡◌, ◌*◌, ◌<◌, ◌≤◌, length, IfOk};
+ghost use Rattle.listing.specs.Walks.{directory_walked, is_deleted as is_deleted_of};
+
+use crate::directory::Directory;
+use entry::{Attribute, ENTRIES, Entry};
+use refusal::Refusal;
+
+// A directory that was walked: its files are the entries from 3 up to `left`, the BLOCKS LEFT entry.
+#[derive(Drop)]
+pub(crate) struct Files {
+    pub(crate) directory: Directory,
+    pub(crate) left: u32,
+    ghost from: { 3 ≤ left },
+    ghost to: { left < 39 * length directory.blocks.items },
+}
+
+// Whether the entry is of a deleted file.
+pub(crate) fn is_deleted(entry: &Entry) -> bool
+    ensures { result ≡ is_deleted_of entry.now.bytes }
+{
+    entry.attributes().has(Attribute::Deleted)
+}
+
+impl Files {
+    ghost use Rattle.listing.specs.Walked.{bytes_of, walked};
+
+    // Walks a directory: it ends at the BLOCKS LEFT entry, and every live file before that has a length.
+    pub(crate) fn of(directory: Directory) -> Result<Files, Refusal>
+        ensures value { walked result ≡ directory_walked (bytes_of directory) (length directory.blocks.items) }
+        ensures kept { IfOk result (λ files. files.directory ≡ directory) }
+    {
+        let end = ENTRIES * directory.size();
+        let Some(left) = directory.first(3, end, |entry| {
+            entry.attributes().has(Attribute::BlocksLeft)
+        }) else {
+            return Err(Refusal::BrokenLayout { entry: end as u16 });
+        };
+        match directory.first(3, left, |entry| !is_deleted(entry) && entry.length().is_none()) {
+            None => Ok(Files { directory, left }),
+            Some(entry) => Err(Refusal::BrokenLayout {
+                entry: entry as u16,
+            }),
+        }
+    }
+}
