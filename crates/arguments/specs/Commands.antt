@@ -1,5 +1,6 @@
 -- The arguments of the program, and what it says when it cannot do what they ask. Assumes nothing.
 --   Asked            what arguments ask for, or why they are no command
+--   Name             the commands by their names; name_of: the command of a word
 --   listed           what each answer of the code stands for
 --   asked            what a list of arguments asks for
 --   misuse_text      why arguments are no command, in words
@@ -13,8 +14,6 @@ use Rattle.arguments.specs.declared.commands.Medium.{Medium}
 use Rattle.arguments.specs.declared.commands.Medium.TheVariants.{Image, Disk}
 use Rattle.arguments.specs.declared.commands.Misuse.{Misuse}
 use Rattle.arguments.specs.declared.commands.Misuse.TheVariants.{UnknownCommand, CatalogueForm, FindForm}
-use Rattle.arguments.specs.declared.commands.Name.{Name}
-use Rattle.arguments.specs.declared.commands.Name.TheVariants.{Help as HelpName, Catalogue as CatalogueName, Find as FindName, Unknown}
 use Rattle.listing.specs.declared.failure.Failure.{Failure}
 use Rattle.listing.specs.declared.failure.Failure.TheVariants.{Memory, Refused}
 
@@ -51,7 +50,13 @@ find_asked medium (path ∷ []) = misuse FindForm
 find_asked medium (path ∷ (name ∷ [])) = find medium path name
 find_asked medium (path ∷ (name ∷ (next ∷ more))) = misuse FindForm
 
--- The command of a name.
+-- The commands by their names.
+pub data Name : Type 0 where
+  HelpName : Name
+  CatalogueName : Name
+  FindName : Name
+  Unknown : Name
+
 abbrev pub name_of : List ℕ → Name
 name_of word =
     cond (bytes_eq word (codes "--help") || (bytes_eq word (codes "-h") || bytes_eq word (codes "help"))) HelpName

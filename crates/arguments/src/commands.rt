@@ -1,10 +1,10 @@
 // The arguments of the program, and what it says when it cannot do what they ask.
-ghost use Rattle.std.specs.Prelude.{◌≡◌, map, IfOk, string_bytes, codes};
-ghost use Rattle.std.specs.Str.{bytes_eq};
-ghost use Rattle.arguments.specs.Commands.{asked, catalogue_asked, complaint_text, find_asked, listed, medium_asked, misuse_text, name_of, places_asked};
+ghost use Rattle.std.specs.Prelude.{◌≡◌, map, IfOk, Some, string_bytes};
+ghost use Rattle.arguments.specs.Commands.{asked, catalogue_asked, complaint_text, find_asked, listed, medium_asked, misuse_text, places_asked};
 
 use listing::Failure;
 use std::alloc::{AllocError, Global};
+use std::fmt;
 
 // What kind of file holds a pack: blocks one after the other, or the sectors of a disk.
 #[derive(Clone, Copy, PartialEq, Eq, Debug)]
@@ -51,34 +51,13 @@ impl Misuse {
     }
 }
 
-// The commands by their names.
-#[derive(Clone, Copy, PartialEq, Eq, Debug)]
-enum Name {
-    Help,
-    Catalogue,
-    Find,
-    Unknown,
-}
+impl fmt::Display for Misuse {
+    ghost output = { λ misuse. Some (misuse_text misuse) };
 
-fn name_of(word: &str) -> Name
-    ensures { result ≡ name_of word.now }
-{
-    if word == "--help" || word == "-h" || word == "help" {
-        return Name::Help;
+    fn fmt<W: fmt::Write>(&self, f: &mut fmt::Formatter<W>) -> fmt::Result {
+        let words = self.words();
+        write!(f, "{words}")
     }
-    if word == "catalogue" {
-        return Name::Catalogue;
-    }
-    if word == "find" {
-        return Name::Find;
-    }
-    Name::Unknown
-}
-
-fn is_disk_option(word: &str) -> bool
-    ensures { result ≡ bytes_eq word.now (codes "--disk") }
-{
-    word == "--disk"
 }
 
 // The kind of file that is asked for, and the arguments behind that.
@@ -86,13 +65,9 @@ fn take_medium<'a>(rest: &'a [String]) -> (Medium, &'a [String])
     ensures medium { result.0 ≡ medium_asked (map string_bytes rest.now) }
     ensures places { map string_bytes result.1.now ≡ places_asked (map string_bytes rest.now) }
 {
-    let [word, more @ ..] = rest else {
-        return (Medium::Image, rest);
-    };
-    if is_disk_option(word.as_str()) {
-        (Medium::Disk, more)
-    } else {
-        (Medium::Image, rest)
+    match rest {
+        [word, more @ ..] if word.as_str() == "--disk" => (Medium::Disk, more),
+        _ => (Medium::Image, rest),
     }
 }
 
@@ -129,11 +104,11 @@ pub fn read_arguments<'a>(args: &'a [String]) -> Result<Command<'a>, Misuse>
         return Ok(Command::Help);
     };
     let (medium, places) = take_medium(rest);
-    match name_of(word.as_str()) {
-        Name::Help => Ok(Command::Help),
-        Name::Catalogue => catalogue_asked(medium, places),
-        Name::Find => find_asked(medium, places),
-        Name::Unknown => Err(Misuse::UnknownCommand),
+    match word.as_str() {
+        "--help" | "-h" | "help" => Ok(Command::Help),
+        "catalogue" => catalogue_asked(medium, places),
+        "find" => find_asked(medium, places),
+        _ => Err(Misuse::UnknownCommand),
     }
 }
 

@@ -7,7 +7,6 @@ ghost use Rattle.listing.specs.Walks.{is_deleted as is_deleted_of};
 use crate::failure::Failure;
 use crate::files::{Files, is_deleted};
 use crate::load::load;
-
 use blocks::BlockDevice;
 use entry::{Entry, Stamp};
 use lines::{HEADINGS, counted, date_text, escaped, row};
@@ -33,6 +32,7 @@ impl Files {
     fn count_deleted(&self) -> u32
         ensures { result ≡ count_that is_deleted_of (bytes_of self.now.directory) 3 (self.now.left - 3) }
     {
+        // A loop and not `filter` and `count`, which count in `usize` and leave the sum unproved.
         let mut count = 0;
         for number in 3..self.left {
             if is_deleted(&self.directory.entry(number)) {

@@ -37,6 +37,7 @@ impl Directory {
         requires within { to ≤ 39 * length self.now.blocks.items }
         ensures { IsFirst (λ bytes passes. FnReturnsAt F.Fn test (entry_of bytes) passes) (concat self.now.blocks.items) from to result }
     {
+        // A loop and not `find`: inside a closure it is not known that the number is one of the range, which `entry` asks.
         for number in from..to {
             if test(&self.entry(number)) {
                 return Some(number);

@@ -2,6 +2,7 @@
 ghost use Rattle.listing.specs.declared.failure.Failure.TheVariants.{Memory, Refused as Refused'};
 ghost use Rattle.std.specs.Prelude.{◌≡◌};
 
+use blocks::Rejected;
 use refusal::Refusal;
 use std::alloc::{AllocError, AllocFailed};
 
@@ -34,5 +35,14 @@ impl From<Refusal> for Failure {
 
     fn from(refusal: Refusal) -> Failure {
         Failure::Refused(refusal)
+    }
+}
+
+// What is no device, as its bytes were rejected.
+impl<T: Drop> From<Rejected<T>> for Failure {
+    ghost from_gives = { λ x r. r ≡ Refused' x.refusal };
+
+    fn from(rejected: Rejected<T>) -> Failure {
+        Failure::Refused(rejected.refusal)
     }
 }

@@ -36,7 +36,11 @@ impl Files {
         }) else {
             return Err(Refusal::BrokenLayout { entry: end as u16 });
         };
-        match directory.first(3, left, |entry| !is_deleted(entry) && entry.length().is_none()) {
+        match directory.first(
+            3,
+            left,
+            |entry| !is_deleted(entry) && entry.length().is_none(),
+        ) {
             None => Ok(Files { directory, left }),
             Some(entry) => Err(Refusal::BrokenLayout {
                 entry: entry as u16,

@@ -38,9 +38,11 @@ impl Files {
         ensures before { IfOk result (λ found. IfSome found (λ e. e < self.now.left)) }
     {
         let name = WholeName::new(given)?;
-        Ok(self.directory.first(3, self.left, |entry| {
-            !is_deleted(entry) && name.fits(entry.name_field())
-        }))
+        Ok(
+            self.directory.first(3, self.left, |entry| {
+                !is_deleted(entry) && name.fits(entry.name_field())
+            }),
+        )
     }
 
     // The first live file that the name fits as a stem.
@@ -49,9 +51,11 @@ impl Files {
         ensures before { IfOk result (λ found. IfSome found (λ e. e < self.now.left)) }
     {
         let stem = Stem::new(given)?;
-        Ok(self.directory.first(3, self.left, |entry| {
-            !is_deleted(entry) && stem.fits(entry.name_field())
-        }))
+        Ok(
+            self.directory.first(3, self.left, |entry| {
+                !is_deleted(entry) && stem.fits(entry.name_field())
+            }),
+        )
     }
 
     // The file by its whole name or, where none fits, by its stem: the name without its type letter.

@@ -9,23 +9,12 @@ use std::test::Fail;
 // A disk whose block 1 begins with these entries, with one byte of it changed. Block 1 is sectors 2 and 3, which are in
 // records 2 and 7; the entries fill less than the first of them.
 fn disk(heap: Global, entries: &[&[u8; 26]], place: usize, byte: u8) -> Result<SectorDisk, Fail> {
-    let mut bytes = zeros(heap, DISK)?;
-    let mut at = 513 * 2;
-    for entry in entries {
-        for byte in *entry {
-            if at < bytes.len() {
-                bytes[at] = *byte;
-                at += 1;
-            }
-        }
+    let mut bytes = vec![in heap; 0; DISK]?;
+    put_entries(&mut bytes, 513 * 2, entries);
+    if let Some(changed) = bytes.get_mut(place) {
+        *changed = byte;
     }
-    if place < bytes.len() {
-        bytes[place] = byte;
-    }
-    match SectorDisk::new(bytes, false) {
-        Ok(disk) => Ok(disk),
-        Err(_) => Err(Fail::new("164,160 bytes are a disk")),
-    }
+    Ok(SectorDisk::new(bytes, false)?)
 }
 
 #[test]

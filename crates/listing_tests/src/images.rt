@@ -1,6 +1,6 @@
 // Small packs for the tests.
 use blocks::Image;
-use std::alloc::{AllocError, Global};
+use std::alloc::Global;
 use std::test::Fail;
 
 // Entries as the layout has them: a volume of 8 blocks with one directory block, the two entries behind it, and files.
@@ -34,19 +34,9 @@ pub(crate) const NO_LENGTH: &[u8; 26] =
 pub(crate) const BLOCKS_LEFT: &[u8; 26] =
     b"BLOCKS LEFT\x03\x01\x05\x00\x00\x00\x03\x00\x00\x00\x00\x00\x54\x02\x1d";
 
-// Zeros, so many of them.
-pub(crate) fn zeros(heap: Global, count: usize) -> Result<Vec<u8>, AllocError> {
-    let mut image = Vec::new(heap);
-    for _ in 0..count {
-        image.push(0)?;
-    }
-    Ok(image)
-}
-
-// An image of so many blocks whose directory begins with these entries.
-pub(crate) fn image(heap: Global, blocks: u16, entries: &[&[u8; 26]]) -> Result<Image, Fail> {
-    let mut bytes = zeros(heap, 1024 * usize::from(blocks))?;
-    let mut at = 1024;
+// Puts entries one after the other over bytes, from a place on.
+pub(crate) fn put_entries(bytes: &mut [u8], place: usize, entries: &[&[u8; 26]]) {
+    let mut at = place;
     for entry in entries {
         for byte in *entry {
             if at < bytes.len() {
@@ -55,8 +45,11 @@ pub(crate) fn image(heap: Global, blocks: u16, entries: &[&[u8; 26]]) -> Result<
             }
         }
     }
-    match Image::new(bytes, false) {
-        Ok(image) => Ok(image),
-        Err(_) => Err(Fail::new("whole blocks are an image")),
-    }
+}
+
+// An image of so many blocks whose directory begins with these entries.
+pub(crate) fn image(heap: Global, blocks: u16, entries: &[&[u8; 26]]) -> Result<Image, Fail> {
+    let mut bytes = vec![in heap; 0; 1024 * usize::from(blocks)]?;
+    put_entries(&mut bytes, 1024, entries);
+    Ok(Image::new(bytes, false)?)
 }

@@ -7,6 +7,7 @@ use arguments::{Command, Medium, USAGE, complaint, read_arguments};
 use blocks::{BlockDevice, Image};
 use listing::{Failure, catalogue, find};
 use sectors::SectorDisk;
+use std::alloc::Global;
 use std::process::ExitCode;
 use std::{env, fs};
 
@@ -16,13 +17,10 @@ fn refuse(rt: &HostRuntime, line: &str) -> anyhow::Result<()> {
     Err(anyhow!("refused"))
 }
 
-// Prints what a command made of a file, or why it made nothing.
+// Prints what a command made of a file, or says why it made nothing.
 fn answer(rt: &HostRuntime, path: &str, made: Result<String, Failure>) -> anyhow::Result<()> {
     match made {
-        Ok(text) => {
-            rt.print(text)?;
-            Ok(())
-        }
+        Ok(text) => Ok(rt.print(text)?),
         Err(failure) => {
             let line = complaint(rt.alloc(), path, failure)?;
             refuse(rt, line.as_str())
@@ -41,53 +39,45 @@ fn read_file(rt: &HostRuntime, path: &str) -> anyhow::Result<Vec<u8>> {
     }
 }
 
-// The catalogue of the pack in a file of that kind.
-fn catalogue_of(rt: &HostRuntime, medium: Medium, bytes: Vec<u8>) -> Result<String, Failure> {
-    match medium {
-        Medium::Image => match Image::new(bytes, false) {
-            Ok(image) => catalogue(rt.alloc(), &image),
-            Err(rejected) => Err(Failure::Refused(rejected.refusal)),
-        },
-        Medium::Disk => match SectorDisk::new(bytes, false) {
-            Ok(disk) => catalogue(rt.alloc(), &disk),
-            Err(rejected) => Err(Failure::Refused(rejected.refusal)),
-        },
+// What is done with a pack.
+#[derive(Clone, Copy)]
+enum Task<'a> {
+    Catalogue,
+    Find(&'a str),
+}
+
+// What a task prints of the pack on a device.
+fn text_of<D: BlockDevice>(heap: Global, device: &D, task: Task<'_>) -> Result<String, Failure> {
+    match task {
+        Task::Catalogue => catalogue(heap, device),
+        Task::Find(name) => find(heap, device, name.as_bytes()),
     }
 }
 
-// The file that a name finds on the pack in a file of that kind.
-fn find_in(
-    rt: &HostRuntime,
+// What a task prints of the pack in a file of that kind.
+fn text_in(
+    heap: Global,
     medium: Medium,
     bytes: Vec<u8>,
-    name: &[u8],
+    task: Task<'_>,
 ) -> Result<String, Failure> {
     match medium {
-        Medium::Image => match Image::new(bytes, false) {
-            Ok(image) => find(rt.alloc(), &image, name),
-            Err(rejected) => Err(Failure::Refused(rejected.refusal)),
-        },
-        Medium::Disk => match SectorDisk::new(bytes, false) {
-            Ok(disk) => find(rt.alloc(), &disk, name),
-            Err(rejected) => Err(Failure::Refused(rejected.refusal)),
-        },
+        Medium::Image => text_of(heap, &Image::new(bytes, false)?, task),
+        Medium::Disk => text_of(heap, &SectorDisk::new(bytes, false)?, task),
     }
+}
+
+// Reads a file, does a task on the pack in it, and prints what that made.
+fn run_on(rt: &HostRuntime, medium: Medium, path: &str, task: Task<'_>) -> anyhow::Result<()> {
+    let bytes = read_file(rt, path)?;
+    answer(rt, path, text_in(rt.alloc(), medium, bytes, task))
 }
 
 fn run(rt: &HostRuntime, command: Command<'_>) -> anyhow::Result<()> {
     match command {
-        Command::Help => {
-            rt.print(USAGE)?;
-            Ok(())
-        }
-        Command::Catalogue { medium, path } => {
-            let bytes = read_file(rt, path)?;
-            answer(rt, path, catalogue_of(rt, medium, bytes))
-        }
-        Command::Find { medium, path, name } => {
-            let bytes = read_file(rt, path)?;
-            answer(rt, path, find_in(rt, medium, bytes, name.as_bytes()))
-        }
+        Command::Help => Ok(rt.print(USAGE)?),
+        Command::Catalogue { medium, path } => run_on(rt, medium, path, Task::Catalogue),
+        Command::Find { medium, path, name } => run_on(rt, medium, path, Task::Find(name)),
     }
 }
 
@@ -97,8 +87,7 @@ fn perform(rt: &HostRuntime) -> anyhow::Result<()> {
     match read_arguments(args.as_slice()) {
         Ok(command) => run(rt, command),
         Err(misuse) => {
-            let words = misuse.words();
-            let line = format!(in rt.alloc(); "pack: {words}")?;
+            let line = format!(in rt.alloc(); "pack: {misuse}")?;
             refuse(rt, line.as_str())
         }
     }

@@ -1,5 +1,4 @@
-use Rattle.std.proofs.Common.{◌≡◌, ◌-◌, true, false, Ok, [], ◌∷◌, ◌++◌, length, sym, ap, ◌∙◌, ap₂, subst, append-nil, arith}
-use Rattle.std.proofs.lemmas.List.{length-append}
+use Rattle.std.proofs.Common.{◌≡◌, ◌-◌, true, false, Ok, [], ◌∷◌, ◌++◌, length, sym, ap, ◌∙◌, ap₂, append-nil, arith}
 use Rattle.std.proofs.lemmas.Result.{err_from_is_err_and}
 use Rattle.std.specs.List.{concat}
 use Rattle.blocks.specs.Devices.{size_of}

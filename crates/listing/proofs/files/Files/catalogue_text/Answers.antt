@@ -1,5 +1,4 @@
-use Rattle.std.proofs.Common.{length, string_bytes, ap, ◌∙◌, ◌≡◌}
-use Rattle.std.specs.List.{concat}
+use Rattle.std.proofs.Common.{ap, ◌∙◌}
 use Rattle.listing.specs.Catalogues.{catalogue_text, left_text, volume_text}
 use Rattle.listing.specs.Walked.{bytes_of, found_in}
 use Rattle.listing.proofs.Pieces.{page-is, text-is}

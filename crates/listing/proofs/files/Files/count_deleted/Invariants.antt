@@ -8,5 +8,5 @@ use Rattle.listing.proofs.files.Files.count_deleted.Given as goal
 abbrev pub invariant-loop-number : goal.invariant-loop-number
 invariant-loop-number l =
     (l.count + count_that is_deleted (concat l.self.directory.blocks.items) l.number (l.self.left - l.number)
-      ≡ count_that is_deleted (concat l.self.directory.blocks.items) 3 (l.self.left - 3))
+    ≡ count_that is_deleted (concat l.self.directory.blocks.items) 3 (l.self.left - 3))
     × (l.count ≤ l.number)
