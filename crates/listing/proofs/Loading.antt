@@ -22,9 +22,6 @@ more-on d b xs block n m e a = ap (λ o. then o (λ c. more d (b + 1) m (xs ++ c
 pub more-ends : (d : Device) (b : ℕ) (xs : List ℕ) (refusal : Refusal) (n m : ℕ) → n ≡ suc m → Err refusal ≡ read_block d b → Err refusal ≡ more d b n xs
 more-ends d b xs refusal n m e a = ap (λ o. then o (λ c. more d (b + 1) m (xs ++ c))) a ∙ sym (ap (λ k. more d b k xs) e)
 
-pub more-all : (d : Device) (b n : ℕ) (xs : List ℕ) (whole : Result (List ℕ) Refusal) → n ≡ 0 → more d b n xs ≡ whole → Ok xs ≡ whole
-more-all d b n xs whole e w = sym (ap (λ k. more d b k xs) e) ∙ w
-
 -- a block that was read has 1,024 bytes
 module _ (d : Device) (wide : (b : ℕ) → b < size_of d → length (block_at d b) ≡ 1024) where
   pub block-long : (b : ℕ) (block : List ℕ) → Ok block ≡ read_block d b → length block ≡ 1024
