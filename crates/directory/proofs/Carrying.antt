@@ -1,18 +1,29 @@
 -- What a block that was read or written through a work block tells of the entry in it. Assumes nothing.
-use Rattle.std.proofs.Common.{◌≡◌, ℕ, ◌<◌, Bool, true, false, cond, eqb, ltb, List, length, Some, None, Ok, Err, Option, sym, refl, ap, ◌∙◌, ap₂, arith}
-use Rattle.std.proofs.lemmas.Bool.{and_parts, eqb-true, ltb-true}
+use Rattle.std.proofs.Common.{◌≡◌, ℕ, ◌<◌, Bool, true, false, cond, ◌&&◌, eqb, ltb, List, length, Some, None, Ok, Err, Option, Result, sym, refl, ap, ◌∙◌, ap₂, arith}
+use Rattle.std.proofs.lemmas.Bool.{and_parts, cond-false, eqb-true, ltb-true, ne_eqb}
 use Rattle.std.specs.Option.{option_or}
+use Rattle.std.specs.Prelude.{IsErrAnd}
+use Rattle.std.proofs.lemmas.Result.{err_from_is_err_and}
 use Rattle.refusal.specs.declared.Refusal.{Refusal}
-use Rattle.blocks.specs.Devices.{Device, block_at, in_range, mark_at, mark_fault, outcome, read_fault, read_out, size_of, write_fault, written}
+use Rattle.blocks.specs.Devices.{Device, block_at, in_range, mark_at, mark_fault, outcome, read_fault, read_out, refusal_of, size_of, write_fault, written}
 use Rattle.blocks.specs.declared.faults.Fault.{Fault}
 use Rattle.blocks.specs.declared.faults.Fault.TheVariants.{OutOfRange}
 use Rattle.entry.specs.Fields.{entry_in, put_in}
 use Rattle.entry.specs.declared.fields.Entry.{Entry}
-use Rattle.directory.specs.Entries.{entry_at, entry_fault, entry_or, entry_read, entry_written, heard_as, holder_of, put_unless}
+use Rattle.directory.specs.Entries.{entry_at, entry_fault, entry_or, entry_read, holder_of, put_unless}
 
-granted : (o : Option Fault) (done : Unit {0}) → Ok done ≡ heard_as (outcome o) → o ≡ None
+granted : (o : Option Fault) (done : Unit {0}) → Ok done ≡ outcome o → o ≡ None
 granted None done h = refl
 granted (Some f) done h = absurd (let z : ◌≡◌ {A = ℕ} 0 1 = cc in omega arith)
+
+-- why a device refused
+pub refused : (o : Option Fault) (fault : Fault) → ◌≡◌ {A = Result (Unit {0}) Fault} (Err fault) (outcome o) → o ≡ Some fault
+refused None fault h = absurd (let z : ◌≡◌ {A = ℕ} 0 1 = cc in omega arith)
+refused (Some f) fault h = let same : fault ≡ f = cc in ap Some (sym same)
+
+-- the way out where a device's refusal is passed on
+pub passed-on : {A : Type 0} (reply : Result A Refusal) (fault : Fault) → IsErrAnd reply (λ e. e ≡ refusal_of fault) → reply ≡ Err (refusal_of fault)
+passed-on reply fault h = let exit = err_from_is_err_and reply h in exit.1 ∙ ap Err exit.2
 
 -- what a granted read of block b tells, where the work block was `before` and is `after`
 pub record Held (d : Device) (b : ℕ) (before after : List ℕ) : Type 0 where
@@ -30,8 +41,16 @@ in-range d b len none = go (in_range d b len) refl
         let never : Some (OutOfRange b) ≡ None = sym (ap (λ t. cond t (mark_fault (mark_at d b)) (Some (OutOfRange b))) h) ∙ none in
         absurd (let z : ◌≡◌ {A = ℕ} 0 1 = cc in omega arith)
 
+-- nothing is read through a work block of another length
+pub no-block : (d : Device) (b len : ℕ) → (len ≡ 1024 → ⊥) → read_fault d b len ≡ Some (OutOfRange b)
+no-block d b len n = cond-false (in_range d b len) _ _ (ap (λ t. ltb b (size_of d) && t) (ne_eqb len 1024 n) ∙ never (ltb b (size_of d)))
+  where
+    never : (t : Bool) → t && false ≡ false
+    never true = refl
+    never false = refl
+
 pub held : (d : Device) (b : ℕ) (before after : List ℕ) (done : Unit {0}) → ((b : ℕ) → b < size_of d → length (block_at d b) ≡ 1024)
-    → Ok done ≡ heard_as (outcome (read_fault d b (length before))) → after ≡ read_out (read_fault d b (length before)) (block_at d b) before
+    → Ok done ≡ outcome (read_fault d b (length before)) → after ≡ read_out (read_fault d b (length before)) (block_at d b) before
     → Held d b before after
 held d b before after done wide reply filled =
     let none = granted (read_fault d b (length before)) done reply in
@@ -51,18 +70,13 @@ module _ (d : Device) (e : ℕ) (before : List ℕ) where
       ap (λ bytes. Ok (record { bytes = bytes })) (is ∙ ap (λ block. entry_in block e) (h.same ∙ ap (block_at d) at))
       ∙ sym (ap (entry_or (entry_at d e)) (ap (λ b. read_fault d b (length before)) (sym at) ∙ h.none))
 
-  -- the block was not read: writing the entry is refused as that was, and nothing has changed
-  pub unread : (b : ℕ) (refusal : Refusal) (after bytes : List ℕ) → b ≡ holder_of e → Err refusal ≡ heard_as (outcome (read_fault d b (length before)))
-      → after ≡ read_out (read_fault d b (length before)) (block_at d b) before
-      → (Err refusal ≡ heard_as (outcome (entry_fault d e (length before)))) × (d ≡ entry_written d e (length before) bytes) × (length after ≡ length before)
-  unread b refusal after bytes at reply filled = go (read_fault d b (length before)) refl reply filled
-    where
-      go : (o : Option Fault) → read_fault d b (length before) ≡ o → Err refusal ≡ heard_as (outcome o) → after ≡ read_out o (block_at d b) before
-          → (Err refusal ≡ heard_as (outcome (entry_fault d e (length before)))) × (d ≡ entry_written d e (length before) bytes) × (length after ≡ length before)
-      go None is h same = absurd (let z : ◌≡◌ {A = ℕ} 0 1 = cc in omega arith)
-      go (Some f) is h same =
-          let fault = read_first b (Some f) at is in
-          (h ∙ ap (λ o. heard_as (outcome o)) (sym fault), sym (ap (λ o. put_unless o d e bytes) fault), ap length same)
+  -- the block was not read: so no entry is
+  pub entry-unread : (b : ℕ) (fault : Fault) → b ≡ holder_of e → read_fault d b (length before) ≡ Some fault → Err (refusal_of fault) ≡ entry_read d e (length before)
+  entry-unread b fault at is = sym (ap (entry_or (entry_at d e)) (ap (λ b. read_fault d b (length before)) (sym at) ∙ is))
+
+  -- and writing the entry is refused as that was
+  pub unread : (b : ℕ) (fault : Fault) → b ≡ holder_of e → read_fault d b (length before) ≡ Some fault → entry_fault d e (length before) ≡ Some fault
+  unread b fault at is = read_first b (Some fault) at is
 
   -- the block was read: writing the entry is refused as writing the block is
   pub write-fault : (b c : ℕ) (after put : List ℕ) → b ≡ holder_of e → c ≡ holder_of e → Held d b before after → length put ≡ 1024

@@ -2,10 +2,10 @@
 use Rattle.std.proofs.Common.{◌≡◌, ℕ, ◌+◌, ◌-◌, ◌*◌, ◌<◌, ◌≤◌, Bool, true, false, cond, not, ◌||◌, ◌⊎◌, List, length, is_some, Some, None, Ok, Err, Option, Result, sym, refl, ap, ◌∙◌, subst, inl, inr, arith}
 use Rattle.std.proofs.lemmas.Bool.{and_from, and_parts, cases_eq, cases_lt, not_from_false, not-true, or_from, or_left, or_parts, or_right, true≢false}
 use Rattle.refusal.specs.declared.Refusal.{Refusal}
-use Rattle.blocks.specs.Devices.{Device, block_at, outcome, read_fault, refusal_of}
+use Rattle.blocks.specs.Devices.{Device, block_at, read_fault, refusal_of}
 use Rattle.blocks.specs.declared.faults.Fault.{Fault}
 use Rattle.entry.specs.Fields.{entry_in}
-use Rattle.directory.specs.Entries.{entry_at, heard_as, holder_of}
+use Rattle.directory.specs.Entries.{entry_at, holder_of}
 use Rattle.directory.specs.Lookups.{FirstMatch, Match, Readable, LookupLaw, Unread, ends_at, first_that, found_at, is_blocks_left, is_deleted, is_match, said, said_at, lookup_reply}
 use Rattle.directory.specs.declared.lookups.Found.{Found}
 use Rattle.directory.proofs.Carrying.{Held}
@@ -120,15 +120,11 @@ module _ (fits : List ℕ → Bool) (d : Device) (directory len : ℕ) where
     ended : ends_at fits d len e ≡ true → said d len (Some e) ≡ lookup_reply fits d directory len
     ended t = ap (said d len) (sym (first-here (ends_at fits d len) e (39 * directory) h t) ∙ ahead)
 
-    pub at-fault : (refusal : Refusal) (b : ℕ) → b ≡ holder_of e → ◌≡◌ {A = Result (Unit {0}) Refusal} (Err refusal) (heard_as (outcome (read_fault d b len)))
-        → Err refusal ≡ lookup_reply fits d directory len
-    at-fault refusal b at reply = go (read_fault d b len) (ap (λ k. read_fault d k len) (sym at)) reply
-      where
-        go : (o : Option Fault) → read_fault d (holder_of e) len ≡ o → ◌≡◌ {A = Result (Unit {0}) Refusal} (Err refusal) (heard_as (outcome o)) → Err refusal ≡ lookup_reply fits d directory len
-        go None is told = absurd (let z : ◌≡◌ {A = ℕ} 0 1 = cc in omega arith)
-        go (Some fault) is told =
-            ap Err (let same : refusal ≡ refusal_of fault = cc in same) ∙ sym (ap (said_at d e) is)
-            ∙ ended (or_left (is_some (read_fault d (holder_of e) len)) (is_blocks_left (entry_at d e) || is_match fits (entry_at d e)) (ap is_some is))
+    pub at-fault : (fault : Fault) (b : ℕ) → b ≡ holder_of e → read_fault d b len ≡ Some fault → Err (refusal_of fault) ≡ lookup_reply fits d directory len
+    at-fault fault b at met =
+        let is : read_fault d (holder_of e) len ≡ Some fault = ap (λ k. read_fault d k len) (sym at) ∙ met in
+        sym (ap (said_at d e) is)
+        ∙ ended (or_left (is_some (read_fault d (holder_of e) len)) (is_blocks_left (entry_at d e) || is_match fits (entry_at d e)) (ap is_some is))
 
     module _ (b : ℕ) (before after bytes : List ℕ) (at : b ≡ holder_of e) (held : Held d b before after) (long : length before ≡ len) (is : bytes ≡ entry_in after e) where
       none : read_fault d (holder_of e) len ≡ None

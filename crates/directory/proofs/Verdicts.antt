@@ -4,10 +4,10 @@ use Rattle.std.proofs.lemmas.Bool.{and_left, cases_eq, cond-false, cond-true, eq
 use Rattle.std.specs.Option.{option_or}
 use Rattle.refusal.specs.declared.Refusal.{Refusal}
 use Rattle.refusal.specs.declared.Refusal.TheVariants.{BrokenLayout, OutOfRange}
-use Rattle.blocks.specs.Devices.{Device, outcome, read_fault, refusal_of, size_of}
+use Rattle.blocks.specs.Devices.{Device, read_fault, refusal_of, size_of}
 use Rattle.blocks.specs.declared.faults.Fault.{Fault}
 use Rattle.blocks.specs.declared.faults.Fault.TheVariants.{OutOfRange as FaultRange, WriteProtected, BadBlock}
-use Rattle.directory.specs.Entries.{entry_at, heard_as}
+use Rattle.directory.specs.Entries.{entry_at}
 use Rattle.directory.specs.Judgements.{JudgementLaw, blocks_left_at, files_fault, first_unread, is_broken, judged, layout_fault, pack_of, unless_fault, verdict, volume_holds, volume_judged}
 use Rattle.directory.specs.Layouts.{Follows, directory_blocks}
 use Rattle.directory.specs.Lookups.{Readable, first_that}
@@ -131,12 +131,8 @@ module _ (d : Device) (len : ℕ) where
       begun : unless_fault (read_fault d 1 1024) (volume_judged d) ≡ judged d len
       begun = sym (cond-true (eqb len 1024) _ _ (eq-eqb len 1024 full) ∙ cond-true (leb 2 (size_of d)) _ _ (le-leb 2 (size_of d) more))
 
-      pub unread-first : (refusal : Refusal) → ◌≡◌ {A = Result (Unit {0}) Refusal} (Err refusal) (heard_as (outcome (read_fault d 1 len))) → Err refusal ≡ judged d len
-      unread-first refusal told = go (read_fault d 1 len) (ap (read_fault d 1) (sym full)) told
-        where
-          go : (o : Option Fault) → read_fault d 1 1024 ≡ o → ◌≡◌ {A = Result (Unit {0}) Refusal} (Err refusal) (heard_as (outcome o)) → Err refusal ≡ judged d len
-          go None q t = absurd (let z : ◌≡◌ {A = ℕ} 0 1 = cc in omega arith)
-          go (Some fault) q t = ap Err (let same : refusal ≡ refusal_of fault = cc in same) ∙ sym (ap (λ o. unless_fault o (volume_judged d)) q) ∙ begun
+      pub unread-first : (fault : Fault) → read_fault d 1 1024 ≡ Some fault → Err (refusal_of fault) ≡ judged d len
+      unread-first fault met = sym (ap (λ o. unless_fault o (volume_judged d)) met) ∙ begun
 
       module _ (read : read_fault d 1 1024 ≡ None) where
         onwards : volume_judged d ≡ judged d len

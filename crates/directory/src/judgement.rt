@@ -4,13 +4,12 @@ ghost use Rattle.blocks.specs.Devices.{block_at, size_of};
 ghost use Rattle.directory.specs.Entries.{WorkBlock, entry_at};
 ghost use Rattle.directory.specs.Judgements.{JudgementLaw, LayoutLaw, first_unread, judged, layout_fault, unless_fault, verdict, volume_holds, volume_judged};
 ghost use Rattle.directory.specs.Layouts.{directory_blocks, pack_blocks};
-ghost use Rattle.directory.specs.Seen.{Begun, Small, told};
+ghost use Rattle.directory.specs.Seen.{Begun};
 
-use crate::entries::{entry_in, heard};
 use crate::layout::{end_of, head_fault, volume_holds};
-use crate::seen::{Seen, see_block};
-use blocks::{BLOCK, BlockDevice};
-use entry::{ENTRIES, Entry};
+use crate::seen::Seen;
+use blocks::BlockDevice;
+use entry::{BLOCK, ENTRIES, Entry};
 use refusal::Refusal;
 
 // What is learnt of a pack that follows the layout.
@@ -33,54 +32,33 @@ pub(crate) struct Counts {
     pub(crate) directory: u8,
 }
 
-// What is answered when all of the directory has been seen.
-fn tell(counts: Counts, head: Option<u32>, seen: Seen) -> Result<Pack, Refusal>
-    requires head { Small head }
-    requires fault { Small seen.fault }
-    ensures { result ≡ told counts head seen }
-{
-    let Some(left) = seen.left else {
-        let end = head.unwrap_or(ENTRIES * u32::from(counts.directory));
-        return Err(Refusal::BrokenLayout { entry: end as u16 });
-    };
-    match head.or(seen.fault) {
-        Some(entry) => Err(Refusal::BrokenLayout {
-            entry: entry as u16,
-        }),
-        None => Ok(Pack {
-            blocks: counts.blocks,
-            directory: counts.directory,
-            left,
-            free: seen.room,
-        }),
-    }
-}
+// The entries of a block, as a number of two bytes.
+const PER_BLOCK: u16 = ENTRIES as u16;
 
 // Judges the entries behind the volume's, which holds. Its block is in the work block.
-fn judge_files<D: BlockDevice>(device: &D, counts: Counts, work: &mut [u8]) -> Result<Pack, Refusal>
-    requires { Begun (D.BlockDevice.meaning device.now) counts work.old }
+fn judge_files<D: BlockDevice>(
+    device: &D,
+    counts: Counts,
+    block: &mut [u8; BLOCK],
+) -> Result<Pack, Refusal>
+    requires { Begun (D.BlockDevice.meaning device.now) counts block.old }
     ensures reply { result ≡ unless_fault (first_unread (D.BlockDevice.meaning device.now) 2 (counts.directory - 1)) (verdict (D.BlockDevice.meaning device.now) (layout_fault (D.BlockDevice.meaning device.now))) }
-    ensures work { WorkBlock work.old work.new }
+    ensures work { WorkBlock block.old block.new }
 {
-    let head = head_fault(work, counts.directory);
+    let head = head_fault(block, counts.directory);
     let mut seen = Seen {
-        end: end_of(&entry_in(work, 2)),
+        counts,
+        end: end_of(&Entry::from_block(block, 2)),
         fault: None,
         left: None,
         room: 0,
     };
-    seen = see_block(seen, counts.blocks, work, 3, ENTRIES);
-    for block in 2..u32::from(counts.directory) + 1 {
-        heard(device.read(block, work))?;
-        seen = see_block(
-            seen,
-            counts.blocks,
-            work,
-            ENTRIES * (block - 1),
-            ENTRIES * block,
-        );
+    seen.see_block(block, 3..PER_BLOCK);
+    for number in 2..=u16::from(counts.directory) {
+        device.read(u32::from(number), block)?;
+        seen.see_block(block, PER_BLOCK * (number - 1)..PER_BLOCK * number);
     }
-    tell(counts, head, seen)
+    seen.tell(head)
 }
 
 // Judges whether the pack on a device follows the layout. Each block of the directory is read once, in their order,
@@ -91,14 +69,14 @@ pub fn judge<D: BlockDevice>(device: &D, work: &mut [u8]) -> Result<Pack, Refusa
     ensures layout { LayoutLaw (D.BlockDevice.meaning device.now) }
     ensures work { WorkBlock work.old work.new }
 {
-    if work.len() != BLOCK {
+    let Some(block) = work.as_mut_array::<BLOCK>() else {
         return Err(Refusal::OutOfRange);
-    }
+    };
     if device.size() < 2 {
         return Err(Refusal::BrokenLayout { entry: 0 });
     }
-    heard(device.read(1, work))?;
-    let volume = entry_in(work, 0);
+    device.read(1, block)?;
+    let volume = Entry::from_block(block, 0);
     if !volume_holds(&volume, device.size()) {
         return Err(Refusal::BrokenLayout { entry: 0 });
     }
@@ -106,5 +84,5 @@ pub fn judge<D: BlockDevice>(device: &D, work: &mut [u8]) -> Result<Pack, Refusa
         blocks: volume.size(),
         directory: volume.directory_blocks(),
     };
-    judge_files(device, counts, work)
+    judge_files(device, counts, block)
 }

@@ -1,12 +1,11 @@
 // What the layout asks of an entry.
-ghost use Rattle.std.specs.Prelude.{◌≡◌, length};
+ghost use Rattle.std.specs.Prelude.{◌≡◌};
 ghost use Rattle.directory.specs.Judgements.{file_holds, has_etx, is_placed, later_holds, volume_holds};
 ghost use Rattle.directory.specs.Layouts.{end_of};
 ghost use Rattle.directory.specs.Seen.{head_fault};
 
-use crate::entries::entry_in;
 use crate::lookups::is_blocks_left;
-use entry::{Attribute, Entry};
+use entry::{Attribute, BLOCK, Entry};
 use names::characters;
 
 // Whether the volume's entry is one of a device of so many blocks.
@@ -65,14 +64,13 @@ pub(crate) fn later_holds(entry: &Entry, blocks: u32, end: u64) -> bool
 }
 
 // The first of the entries 1 and 2 that does not hold.
-pub(crate) fn head_fault(block: &[u8], directory: u8) -> Option<u32>
-    requires { length block.now ≡ 1024 }
+pub(crate) fn head_fault(block: &[u8; BLOCK], directory: u8) -> Option<u16>
     ensures { result ≡ head_fault block.now directory }
 {
-    if !is_placed(&entry_in(block, 1), 0, 1) {
+    if !is_placed(&Entry::from_block(block, 1), 0, 1) {
         return Some(1);
     }
-    if !is_placed(&entry_in(block, 2), 1, u16::from(directory)) {
+    if !is_placed(&Entry::from_block(block, 2), 1, u16::from(directory)) {
         return Some(2);
     }
     None

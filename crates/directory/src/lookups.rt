@@ -3,9 +3,8 @@ ghost use Rattle.std.specs.Prelude.{◌≡◌, ℕ, Bool, List, length};
 ghost use Rattle.directory.specs.Entries.{WorkBlock};
 ghost use Rattle.directory.specs.Lookups.{LookupLaw, is_blocks_left, is_match, lookup_reply};
 
-use crate::entries::{entry_in, heard};
 use blocks::BlockDevice;
-use entry::{Attribute, ENTRIES, Entry};
+use entry::{Attribute, BLOCK, ENTRIES, Entry};
 use refusal::Refusal;
 
 // What a file can be looked for by: it says yes or no to an entry, of which it sees all 26 bytes.
@@ -47,22 +46,22 @@ pub fn lookup<D: BlockDevice, K: Key>(
     ensures law { LookupLaw (K.Key.meaning key.now) (D.BlockDevice.meaning device.now) directory (length work.old) result }
     ensures work { WorkBlock work.old work.new }
 {
-    // the three entries before the files are passed over
-    let mut first = 3;
-    let mut found = None;
-    'directory: for block in 0..u32::from(directory) {
-        heard(device.read(1 + block, work))?;
-        for number in ENTRIES * block + first..ENTRIES * (block + 1) {
-            let entry = entry_in(work, number);
+    for block in 1..=u32::from(directory) {
+        let Some(held) = work.as_mut_array::<BLOCK>() else {
+            return Err(Refusal::OutOfRange);
+        };
+        device.read(block, held)?;
+        // the three entries before the files are passed over
+        let first = (ENTRIES * (block - 1)).max(3);
+        for number in first..ENTRIES * block {
+            let entry = Entry::from_block(held, number);
             if is_blocks_left(&entry) {
-                break 'directory;
+                return Ok(None);
             }
             if is_match(key, &entry) {
-                found = Some(Found { number, entry });
-                break 'directory;
+                return Ok(Some(Found { number, entry }));
             }
         }
-        first = 0;
     }
-    Ok(found)
+    Ok(None)
 }

@@ -1,55 +1,70 @@
 // The pass of the judgement through the entries from 3 on.
-ghost use Rattle.std.specs.Prelude.{◌≡◌, ◌-◌, length};
-ghost use Rattle.directory.specs.Seen.{seen_after, seen_from};
+ghost use Rattle.std.specs.Prelude.{◌≡◌, ◌-◌};
+ghost use Rattle.directory.specs.Seen.{seen_after, seen_from, told};
 
-use crate::entries::entry_in;
+use crate::judgement::{Counts, Pack};
 use crate::layout::{end_of, later_holds};
 use crate::lookups::is_blocks_left;
-use entry::Entry;
+use entry::{BLOCK, ENTRIES, Entry};
+use refusal::Refusal;
+use std::ops::Range;
 
-// What has been seen of the entries from 3 on.
+// What has been seen of the entries from 3 on. An entry is told by a number of two bytes, as a refusal has it.
 #[derive(Clone, Copy)]
 pub(crate) struct Seen {
+    // what the volume's entry counts
+    pub(crate) counts: Counts,
     // the block behind the room of the latest one
     pub(crate) end: u64,
     // the first that does not hold
-    pub(crate) fault: Option<u32>,
+    pub(crate) fault: Option<u16>,
     // the BLOCKS LEFT entry; nothing behind it is looked at
-    pub(crate) left: Option<u32>,
+    pub(crate) left: Option<u16>,
     // the room of the latest one
     pub(crate) room: u16,
 }
 
-// What has been seen after one entry more.
-fn see(seen: Seen, blocks: u32, number: u32, entry: &Entry) -> Seen
-    ensures { result ≡ seen_after blocks seen number entry.now.bytes }
-{
-    if seen.left.is_some() {
-        return seen;
+impl Seen {
+    // One entry more is seen.
+    fn see(&mut self, number: u16, entry: &Entry)
+        ensures { self.new ≡ seen_after self.old number entry.now.bytes }
+    {
+        if self.left.is_some() {
+            return;
+        }
+        let holds = later_holds(entry, self.counts.blocks, self.end);
+        self.fault = self.fault.or((!holds).then_some(number));
+        self.left = is_blocks_left(entry).then_some(number);
+        self.end = end_of(entry);
+        self.room = entry.room();
     }
-    let holds = later_holds(entry, blocks, seen.end);
-    let own = if holds { None } else { Some(number) };
-    Seen {
-        end: end_of(entry),
-        fault: seen.fault.or(own),
-        left: if is_blocks_left(entry) {
-            Some(number)
-        } else {
-            None
-        },
-        room: entry.room(),
-    }
-}
 
-// What has been seen after the entries from `from` up to `to` of a block.
-pub(crate) fn see_block(seen: Seen, blocks: u32, block: &[u8], from: u32, to: u32) -> Seen
-    requires { length block.now ≡ 1024 }
-    ensures { result ≡ seen_from blocks block.now seen from (to - from) }
-{
-    let mut seen = seen;
-    for number in from..to {
-        let entry = entry_in(block, number);
-        seen = see(seen, blocks, number, &entry);
+    // The entries of these numbers are seen, in the block that holds them.
+    pub(crate) fn see_block(&mut self, block: &[u8; BLOCK], numbers: Range<u16>)
+        ensures { self.new ≡ seen_from block.now self.old numbers.start (numbers.end - numbers.start) }
+    {
+        for number in numbers {
+            self.see(number, &Entry::from_block(block, u32::from(number)));
+        }
     }
-    seen
+
+    // What is answered when all of the directory has been seen, where `head` is the first fault of the entries before.
+    pub(crate) fn tell(self, head: Option<u16>) -> Result<Pack, Refusal>
+        ensures { result ≡ told head self }
+    {
+        let Some(left) = self.left else {
+            let behind = ENTRIES * u32::from(self.counts.directory);
+            let entry = head.unwrap_or(behind as u16);
+            return Err(Refusal::BrokenLayout { entry });
+        };
+        match head.or(self.fault) {
+            Some(entry) => Err(Refusal::BrokenLayout { entry }),
+            None => Ok(Pack {
+                blocks: self.counts.blocks,
+                directory: self.counts.directory,
+                left: u32::from(left),
+                free: self.room,
+            }),
+        }
+    }
 }

@@ -1,77 +1,96 @@
-use Rattle.std.proofs.Common.{◌≡◌, ◌+◌, ◌-◌, ◌*◌, None, Err, sym, refl, ap, ◌∙◌, subst, arith}
-use Rattle.std.proofs.lemmas.Result.{err_from_is_err_and}
-use Rattle.blocks.specs.Devices.{outcome, read_fault}
+use Rattle.std.proofs.Common.{◌≡◌, ℕ, ◌+◌, ◌-◌, ◌*◌, ◌<◌, ◌≤◌, List, length, Ok, Some, None, sym, refl, ap, ap₂, ◌∙◌, subst, arith}
+use Rattle.blocks.specs.Devices.{Device, block_at, outcome, read_fault, read_out, size_of}
 use Rattle.entry.specs.Fields.{entry_in}
-use Rattle.directory.specs.Entries.{heard_as}
+use Rattle.directory.specs.Entries.{entry_at}
 use Rattle.directory.specs.Judgements.{first_unread, layout_fault, verdict}
 use Rattle.directory.specs.Layouts.{directory_blocks, end_of}
-use Rattle.directory.specs.Seen.{Small}
+use Rattle.directory.specs.Seen.{seen_from}
 use Rattle.directory.specs.declared.seen.Seen.{Seen}
-use Rattle.directory.proofs.Carrying.{held}
-use Rattle.directory.proofs.Passing.{SoFar, begins, few, head-is, seen-block, small-fault, small-head, told_is, unread-ends, unread-none, unread-on}
+use Rattle.directory.proofs.Carrying.{held, passed-on, refused}
+use Rattle.directory.proofs.Passing.{SoFar, begins, head-is, seen-block, told_is, unread-ends, unread-none, unread-on}
 use Rattle.directory.proofs.Testing.{volume-follows}
 use Rattle.directory.proofs.judgement.judge_files.Goals as goal
+use Rattle.directory.proofs.judgement.judge_files.Goals.{else-loop-number-test, then-loop-number-test+in_ok-read+else-number-number-end}
 
-pub loop-block-init : goal.loop-block-init
-loop-block-init g c =
-    let d = g.D.BlockDevice.meaning c.args.device.now in
-    let s : Seen = record { end = c.end_of.result; fault = None; left = None; room = 0 } in (
-      seen-block d c.args.counts.blocks 1 c.args.work.now 3 39 s c.see_block-seen.result c.requires.blocks c.requires.first (omega arith) (omega arith) (omega arith) refl
-          (begins d s refl refl (c.end_of.ensures ∙ ap end_of (c.entry_in.ensures ∙ ap (λ b. entry_in b 2) c.requires.first))) c.see_block-seen.ensures,
-      ap (first_unread d 2) (omega arith),
-    )
+-- one block more is read and seen
+module _ (d : Device) (wide : (b : ℕ) → b < size_of d → length (block_at d b) ≡ 1024) (b at : ℕ) (is : at ≡ b) (before after : List ℕ) (done : Unit {0})
+    (reply : Ok done ≡ outcome (read_fault d at (length before))) (filled : after ≡ read_out (read_fault d at (length before)) (block_at d at) before) where
+  seen_more : (s next : Seen) → 2 ≤ b → SoFar d (39 * (b - 1)) s → next ≡ seen_from after s (39 * (b - 1)) (39 * b - 39 * (b - 1)) → SoFar d (39 * b) next
+  seen_more s next low h made =
+      seen-block d b after (39 * (b - 1)) (39 * b) s next ((held d at before after done wide reply filled).same ∙ ap (block_at d) is)
+      (omega arith) (omega arith) (omega arith) refl h made
 
-pub returns-in_err-heard : goal.returns-in_err-heard
-returns-in_err-heard g c =
+  read_more : (directory : ℕ) → b ≤ directory → first_unread d (b + 1) (directory + 1 - (b + 1)) ≡ first_unread d b (directory + 1 - b)
+  read_more directory le =
+      let h = held d at before after done wide reply filled in
+      unread-on d b (directory + 1 - b) (directory + 1 - (b + 1)) (omega arith) (ap₂ (read_fault d) (sym is) (sym h.full) ∙ h.none)
+
+pub loop-number-init : goal.loop-number-init
+loop-number-init g c =
     let d = g.D.BlockDevice.meaning c.args.device.now in
-    let b = c.loop-block.block in
-    let full = c.loop-block.auto.work ∙ c.requires.full in
-    let exit = err_from_is_err_and c.from_residual.result c.from_residual.ensures.1 in
-    let told = c.in_err-heard.ensures ∙ ap heard_as c.read.ensures.reply ∙ ap (λ n. heard_as (outcome (read_fault d b n))) full in
+    let s : Seen = record { counts = c.args.counts; end = c.end_of.result; fault = None; left = None; room = 0 } in
+    let end : c.end_of.result ≡ end_of (entry_at d 2) = c.end_of.ensures ∙ ap end_of (c.from_block.ensures ∙ ap (λ b. entry_in b 2) c.requires.first) in
     record {
-      reply = exit.1 ∙ ap Err exit.2
-          ∙ unread-ends d (verdict d (layout_fault d)) c.in_err-heard.field-0.0 b (c.args.counts.directory + 1 - b) (c.args.counts.directory - b) _
-          (omega (arith, c.loop-block-test.true, c.from-block-end.ensures)) told c.loop-block.invariant.1;
-      work = c.read.auto.buffer ∙ c.loop-block.auto.work;
+      full = c.told-block;
+      high = omega (arith, (volume-follows d c.requires.holds).some, c.requires.directory);
+      seen = seen-block d 1 c.args.block.now 3 39 s c.see_block.new.self c.requires.first (omega arith) (omega arith) (omega arith) refl
+          (begins d s c.requires.blocks c.requires.directory refl refl end) c.see_block.ensures;
+      left = ap (first_unread d 2) (omega arith);
     }
 
-pub loop-block-preserved : goal.loop-block-preserved
-loop-block-preserved g c =
+pub returns-in_err-read-clause-reply : goal.returns-in_err-read-clause-reply
+returns-in_err-read-clause-reply g c =
     let d = g.D.BlockDevice.meaning c.args.device.now in
-    let b = c.loop-block.block in
-    let h = held d b c.loop-block.work c.read.new.buffer c.in_ok-heard.field-0 (g.met.D.BlockDevice.wide c.args.device.now)
-    (c.in_ok-heard.ensures ∙ ap heard_as c.read.ensures.reply) c.read.ensures.filled in (
-      subst (λ e. SoFar d e c.see_block-seen-in-loop-block.result) (let z : 39 * b ≡ 39 * (b + 1 - 1) = omega arith in z)
-          (seen-block d c.args.counts.blocks b c.read.new.buffer (39 * (b - 1)) (39 * b) c.loop-block.seen c.see_block-seen-in-loop-block.result c.requires.blocks h.same
-          (omega (arith, c.loop-block.auto.block)) (omega arith) (omega arith) refl c.loop-block.invariant.0 c.see_block-seen-in-loop-block.ensures),
-      unread-on d b (c.args.counts.directory + 1 - b) (c.args.counts.directory + 1 - (b + 1)) (omega (arith, c.loop-block-test.true, c.from-block-end.ensures))
-          (ap (read_fault d b) (sym h.full) ∙ h.none)
-          ∙ c.loop-block.invariant.1,
-    )
+    let b = c.loop-number.number in
+    let f = c.in_err-read.field-0.0 in
+    let met : read_fault d b 1024 ≡ Some f = ap₂ (read_fault d) (sym c.from.ensures) (sym c.loop-number.invariant.full)
+    ∙ refused (read_fault d c.from.result (length c.loop-number.block)) f c.in_err-read.ensures.reply in
+    passed-on c.from_residual.result f c.from_residual.ensures.1
+    ∙ unread-ends d (verdict d (layout_fault d)) f b (c.args.counts.directory + 1 - b) (c.args.counts.directory - b) _
+    (omega (arith, c.loop-number-test.true, c.from-number-end.ensures)) met c.loop-number.invariant.left
 
-pub tell-requires : goal.tell-requires
-tell-requires g c =
+pub loop-number-preserved : goal.loop-number-preserved
+loop-number-preserved g c =
     let d = g.D.BlockDevice.meaning c.args.device.now in
+    let b = c.loop-number.number in
+    let wide = g.met.D.BlockDevice.wide c.args.device.now in
+    let reply = c.in_ok-read.ensures.reply in
+    let filled = c.in_ok-read.ensures.filled in
+    record {
+      high = omega (arith, c.loop-number-test.true, c.from-number-end.ensures);
+      full = (held d c.from.result c.loop-number.block c.read.new.buffer c.in_ok-read.field-0 wide reply filled).long;
+      seen = subst (λ e. SoFar d e c.see_block-in-loop-number.new.self) (let z : 39 * b ≡ 39 * (b + 1 - 1) = omega arith in z)
+          (seen_more d wide b c.from.result c.from.ensures c.loop-number.block c.read.new.buffer c.in_ok-read.field-0 reply filled
+          c.loop-number.seen c.see_block-in-loop-number.new.self c.loop-number.auto.number c.loop-number.invariant.seen c.see_block-in-loop-number.ensures);
+      left = read_more d wide b c.from.result c.from.ensures c.loop-number.block c.read.new.buffer c.in_ok-read.field-0 reply filled
+          c.args.counts.directory (omega (arith, c.loop-number-test.true, c.from-number-end.ensures)) ∙ c.loop-number.invariant.left;
+    }
+
+pub returns-clause-reply : goal.returns-clause-reply
+returns-clause-reply g c =
+    let d = g.D.BlockDevice.meaning c.args.device.now in
+    let wide = g.met.D.BlockDevice.wide c.args.device.now in
+    let b = c.loop-number.number in
     let some = (volume-follows d c.requires.holds).some in
-    record {
-      head = subst Small (sym c.head_fault-head.ensures) (small-head c.args.work.now c.args.counts.directory);
-      fault = small-fault d (39 * (c.loop-block.block - 1)) c.loop-block.seen (omega (arith, c.loop-block.auto.block))
-          (omega (arith, c.loop-block.auto.block-end (omega (arith, c.from-block-end.ensures, c.requires.directory, some)), c.from-block-end.ensures, c.requires.directory, few d))
-          c.loop-block.invariant.0;
-    }
-
-pub returns : goal.returns
-returns g c =
-    let d = g.D.BlockDevice.meaning c.args.device.now in
-    let some = (volume-follows d c.requires.holds).some in
-    let end : c.loop-block.block ≡ c.args.counts.directory + 1 =
-    omega (arith, c.loop-block-test.false, c.loop-block.auto.block-end (omega (arith, c.from-block-end.ensures, c.requires.directory, some)), c.from-block-end.ensures) in
-    record {
-      reply = c.tell.ensures
-          ∙ told_is d c.args.counts c.loop-block.seen c.head_fault-head.result
-          (subst (λ e. SoFar d e c.loop-block.seen) (let z : 39 * (c.loop-block.block - 1) ≡ 39 * directory_blocks d = omega (arith, end, c.requires.directory) in z) c.loop-block.invariant.0)
-          some c.requires.blocks c.requires.directory
-          (c.head_fault-head.ensures ∙ head-is d c.args.work.now c.args.counts.directory c.requires.holds c.requires.first c.requires.directory)
-          ∙ unread-none d (verdict d (layout_fault d)) c.loop-block.block (c.args.counts.directory + 1 - c.loop-block.block) _ (omega (arith, end)) c.loop-block.invariant.1;
-      work = c.loop-block.auto.work;
-    }
+    let seen : SoFar d (39 * directory_blocks d) c.loop-number-test.seen × (first_unread d 2 (c.args.counts.directory - 1) ≡ None) =
+    elim c.loop-number-test.branch [
+      | else-loop-number-test w ↦
+          (let end : b ≡ c.args.counts.directory + 1 = omega (arith, w.loop-number-test.false, c.from-number-end.ensures, c.loop-number.invariant.high) in (
+            subst (λ s. SoFar d (39 * directory_blocks d) s) (sym w.seen-is)
+                (subst (λ e. SoFar d e c.loop-number.seen) (let z : 39 * (b - 1) ≡ 39 * directory_blocks d = omega (arith, end, c.requires.directory) in z) c.loop-number.invariant.seen),
+            sym c.loop-number.invariant.left ∙ ap (first_unread d b) (let z : c.args.counts.directory + 1 - b ≡ 0 = omega (arith, end) in z),
+          ))
+      | then-loop-number-test+in_ok-read+else-number-number-end w ↦ (
+        subst (λ e. SoFar d e c.loop-number-test.seen) (let z : 39 * b ≡ 39 * directory_blocks d = omega (arith, w.loop-number-test.true, c.from-number-end.ensures, c.requires.directory) in z)
+            (subst (SoFar d (39 * b)) (sym w.seen-is)
+            (seen_more d wide b w.from.result w.from.ensures c.loop-number.block w.read.new.buffer w.in_ok-read.field-0 w.in_ok-read.ensures.reply w.in_ok-read.ensures.filled
+            c.loop-number.seen w.see_block-in-loop-number.new.self c.loop-number.auto.number c.loop-number.invariant.seen w.see_block-in-loop-number.ensures)),
+        sym (read_more d wide b w.from.result w.from.ensures c.loop-number.block w.read.new.buffer w.in_ok-read.field-0 w.in_ok-read.ensures.reply w.in_ok-read.ensures.filled
+            c.args.counts.directory (omega (arith, w.loop-number-test.true, c.from-number-end.ensures)) ∙ c.loop-number.invariant.left)
+            ∙ ap (first_unread d (b + 1)) (let z : c.args.counts.directory + 1 - (b + 1) ≡ 0 = omega (arith, w.loop-number-test.true, c.from-number-end.ensures) in z),
+      )
+    ] in
+    c.tell.ensures
+    ∙ told_is d c.loop-number-test.seen c.head_fault-head.result seen.0 some
+    (c.head_fault-head.ensures ∙ head-is d c.args.block.now c.args.counts.directory c.requires.holds c.requires.first c.requires.directory)
+    ∙ unread-none (verdict d (layout_fault d)) _ seen.1

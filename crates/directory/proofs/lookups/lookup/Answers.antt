@@ -1,80 +1,97 @@
-use Rattle.std.proofs.Common.{◌+◌, ◌*◌, length, Ok, Err, sym, ap, ◌∙◌, arith}
-use Rattle.std.proofs.lemmas.Result.{err_from_is_err_and}
-use Rattle.blocks.specs.Devices.{outcome, read_fault}
-use Rattle.directory.specs.Entries.{heard_as}
-use Rattle.directory.specs.Lookups.{lookup_reply}
-use Rattle.directory.proofs.Carrying.{held}
-use Rattle.directory.proofs.Matching.{at-blocks-left, at-fault, at_last, at-match, past, lookup-law}
+use Rattle.std.proofs.Common.{◌≡◌, ◌-◌, ◌*◌, length, max, sym, ap, ◌∙◌, subst, arith}
+use Rattle.blocks.specs.declared.faults.Fault.TheVariants.{OutOfRange}
+use Rattle.blocks.specs.Devices.{read_fault}
+use Rattle.directory.proofs.Carrying.{held, no-block, passed-on, refused}
+use Rattle.directory.proofs.Matching.{Ahead, at-blocks-left, at-fault, at_last, at-match, past, lookup-law}
 use Rattle.directory.proofs.lookups.lookup.Goals as goal
 
-pub returns-in_err-heard : goal.returns-in_err-heard
-returns-in_err-heard g c =
+pub returns-in_default : goal.returns-in_default
+returns-in_default g c =
     let d = g.D.BlockDevice.meaning c.args.device.now in
     let fits = g.K.Key.meaning c.args.key.now in
     let len = length c.args.work.now in
-    let b = 1 + c.directory.block in
-    let e = 39 * c.directory.block + c.directory.first in
-    let exit = err_from_is_err_and c.from_residual.result c.from_residual.ensures.1 in
-    let told = c.in_err-heard.ensures ∙ ap heard_as c.read.ensures.reply ∙ ap (λ n. heard_as (outcome (read_fault d b n))) c.directory.auto.work in
-    let reply = exit.1 ∙ ap Err exit.2
-    ∙ at-fault fits d c.args.directory len e c.directory.invariant.2 (omega (arith, c.directory-test.true, c.from-block-end.ensures, c.directory.invariant.1))
-    c.in_err-heard.field-0.0 b (omega (arith, c.directory.invariant.1)) told in
-    record { reply = reply; law = lookup-law fits d c.args.directory len _ reply; work = c.read.auto.buffer ∙ c.directory.auto.work }
+    let b = c.loop-block.block in
+    let e = max (39 * (b - 1)) 3 in
+    let reply = at-fault fits d c.args.directory len e c.loop-block.invariant (omega (arith, c.loop-block-test.true, c.from-block-end.ensures, c.loop-block.auto.block))
+    (OutOfRange b) b (omega (arith, c.loop-block.auto.block)) (no-block d b len (λ q. c.in_default.ensures.cases (c.loop-block.auto.work ∙ q))) in
+    record { reply = reply; law = lookup-law fits d c.args.directory len _ reply; work = c.loop-block.auto.work }
+
+pub returns-in_err-read : goal.returns-in_err-read
+returns-in_err-read g c =
+    let d = g.D.BlockDevice.meaning c.args.device.now in
+    let fits = g.K.Key.meaning c.args.key.now in
+    let len = length c.args.work.now in
+    let b = c.loop-block.block in
+    let e = max (39 * (b - 1)) 3 in
+    let f = c.in_err-read.field-0.0 in
+    let long : length c.in-Some.held.now ≡ length c.args.work.now = ap length c.in-Some.ensures.cases.same ∙ c.loop-block.auto.work in
+    let met = ap (read_fault d b) (sym long) ∙ refused (read_fault d b (length c.in-Some.held.now)) f c.in_err-read.ensures.reply in
+    let reply = passed-on c.from_residual.result f c.from_residual.ensures.1
+    ∙ at-fault fits d c.args.directory len e c.loop-block.invariant (omega (arith, c.loop-block-test.true, c.from-block-end.ensures, c.loop-block.auto.block))
+    f b (omega (arith, c.loop-block.auto.block)) met in
+    record { reply = reply; law = lookup-law fits d c.args.directory len _ reply; work = c.read.auto.buffer ∙ long }
 
 pub loop-number-preserved : goal.loop-number-preserved
 loop-number-preserved g c =
     let d = g.D.BlockDevice.meaning c.args.device.now in
+    let before = c.in-Some.held.now in
     let after = c.read.new.buffer in
-    let before = c.directory.work in
-    let b = 1 + c.directory.block in
-    let h = held d b before after c.in_ok-heard.field-0 (g.met.D.BlockDevice.wide c.args.device.now)
-    (c.in_ok-heard.ensures ∙ ap heard_as c.read.ensures.reply) c.read.ensures.filled in (
-      c.loop-number.invariant.0,
-      past (g.K.Key.meaning c.args.key.now) d c.args.directory (length after) c.loop-number.number c.loop-number.invariant.1
-          (omega (arith, c.loop-number-test.true, c.directory-test.true, c.from-block-end.ensures))
-          b before after c.entry_in-entry.result.bytes (omega (arith, c.loop-number-test.true, c.loop-number.auto.number)) h (h.full ∙ sym h.long)
-          c.entry_in-entry.ensures (sym c.is_blocks_left.ensures ∙ c.if-is_blocks_left.false) (sym c.is_match.ensures ∙ c.if-is_match.false),
-    )
-
-pub returns-after-directory : goal.returns-after-directory
-returns-after-directory g c =
-    let d = g.D.BlockDevice.meaning c.args.device.now in
-    let fits = g.K.Key.meaning c.args.key.now in
-    let len = length c.args.work.now in
-    let e = 39 * c.directory.block + c.directory.first in
-    let reply = ap Ok c.directory.invariant.0 ∙ at_last fits d c.args.directory len e c.directory.invariant.2 (omega (arith, c.directory-test.false, c.from-block-end.ensures)) in
-    record { reply = reply; law = lookup-law fits d c.args.directory len _ reply; work = c.directory.auto.work }
+    let b = c.loop-block.block in
+    let long : length before ≡ length c.args.work.now = ap length c.in-Some.ensures.cases.same ∙ c.loop-block.auto.work in
+    let h = held d b before after c.in_ok-read.field-0 (g.met.D.BlockDevice.wide c.args.device.now) c.in_ok-read.ensures.reply c.in_ok-read.ensures.filled in
+    past (g.K.Key.meaning c.args.key.now) d c.args.directory (length c.args.work.now) c.loop-number.number c.loop-number.invariant
+    (omega (arith, c.loop-number-test.true, c.loop-block-test.true, c.from-block-end.ensures))
+    b before after c.from_block-entry.result.bytes (omega (arith, c.loop-number-test.true, c.loop-number.auto.number, c.max-first.ensures, c.loop-block.auto.block)) h long
+    c.from_block-entry.ensures (sym c.is_blocks_left.ensures ∙ c.if-is_blocks_left.false) (sym c.is_match.ensures ∙ c.if-is_match.false)
 
 pub returns-then-is_blocks_left : goal.returns-then-is_blocks_left
 returns-then-is_blocks_left g c =
     let d = g.D.BlockDevice.meaning c.args.device.now in
     let fits = g.K.Key.meaning c.args.key.now in
+    let before = c.in-Some.held.now in
     let after = c.read.new.buffer in
-    let before = c.directory.work in
-    let b = 1 + c.directory.block in
-    let h = held d b before after c.in_ok-heard.field-0 (g.met.D.BlockDevice.wide c.args.device.now)
-    (c.in_ok-heard.ensures ∙ ap heard_as c.read.ensures.reply) c.read.ensures.filled in
-    let long = c.read.auto.buffer ∙ c.directory.auto.work in
-    let reply = ap Ok c.loop-number.invariant.0 ∙ at-blocks-left fits d c.args.directory (length after) c.loop-number.number c.loop-number.invariant.1
-    (omega (arith, c.loop-number-test.true, c.directory-test.true, c.from-block-end.ensures))
-    b before after c.entry_in-entry.result.bytes (omega (arith, c.loop-number-test.true, c.loop-number.auto.number)) h (h.full ∙ sym h.long)
-    c.entry_in-entry.ensures (sym c.is_blocks_left.ensures ∙ c.if-is_blocks_left.true)
-    ∙ ap (lookup_reply fits d c.args.directory) long in
-    record { reply = reply; law = lookup-law fits d c.args.directory (length c.args.work.now) _ reply; work = long }
+    let b = c.loop-block.block in
+    let long : length c.in-Some.held.now ≡ length c.args.work.now = ap length c.in-Some.ensures.cases.same ∙ c.loop-block.auto.work in
+    let h = held d b before after c.in_ok-read.field-0 (g.met.D.BlockDevice.wide c.args.device.now) c.in_ok-read.ensures.reply c.in_ok-read.ensures.filled in
+    let reply = at-blocks-left fits d c.args.directory (length c.args.work.now) c.loop-number.number c.loop-number.invariant
+    (omega (arith, c.loop-number-test.true, c.loop-block-test.true, c.from-block-end.ensures))
+    b before after c.from_block-entry.result.bytes (omega (arith, c.loop-number-test.true, c.loop-number.auto.number, c.max-first.ensures, c.loop-block.auto.block)) h long
+    c.from_block-entry.ensures (sym c.is_blocks_left.ensures ∙ c.if-is_blocks_left.true) in
+    record { reply = reply; law = lookup-law fits d c.args.directory (length c.args.work.now) _ reply; work = c.read.auto.buffer ∙ long }
 
 pub returns-then-is_match : goal.returns-then-is_match
 returns-then-is_match g c =
     let d = g.D.BlockDevice.meaning c.args.device.now in
     let fits = g.K.Key.meaning c.args.key.now in
+    let before = c.in-Some.held.now in
     let after = c.read.new.buffer in
-    let before = c.directory.work in
-    let b = 1 + c.directory.block in
-    let h = held d b before after c.in_ok-heard.field-0 (g.met.D.BlockDevice.wide c.args.device.now)
-    (c.in_ok-heard.ensures ∙ ap heard_as c.read.ensures.reply) c.read.ensures.filled in
-    let long = c.read.auto.buffer ∙ c.directory.auto.work in
-    let reply = at-match fits d c.args.directory (length after) c.loop-number.number c.loop-number.invariant.1
-    (omega (arith, c.loop-number-test.true, c.directory-test.true, c.from-block-end.ensures))
-    b before after c.entry_in-entry.result.bytes (omega (arith, c.loop-number-test.true, c.loop-number.auto.number)) h (h.full ∙ sym h.long)
-    c.entry_in-entry.ensures (sym c.is_blocks_left.ensures ∙ c.if-is_blocks_left.false) (sym c.is_match.ensures ∙ c.if-is_match.true)
-    ∙ ap (lookup_reply fits d c.args.directory) long in
-    record { reply = reply; law = lookup-law fits d c.args.directory (length c.args.work.now) _ reply; work = long }
+    let b = c.loop-block.block in
+    let long : length c.in-Some.held.now ≡ length c.args.work.now = ap length c.in-Some.ensures.cases.same ∙ c.loop-block.auto.work in
+    let h = held d b before after c.in_ok-read.field-0 (g.met.D.BlockDevice.wide c.args.device.now) c.in_ok-read.ensures.reply c.in_ok-read.ensures.filled in
+    let reply = at-match fits d c.args.directory (length c.args.work.now) c.loop-number.number c.loop-number.invariant
+    (omega (arith, c.loop-number-test.true, c.loop-block-test.true, c.from-block-end.ensures))
+    b before after c.from_block-entry.result.bytes (omega (arith, c.loop-number-test.true, c.loop-number.auto.number, c.max-first.ensures, c.loop-block.auto.block)) h long
+    c.from_block-entry.ensures (sym c.is_blocks_left.ensures ∙ c.if-is_blocks_left.false) (sym c.is_match.ensures ∙ c.if-is_match.true) in
+    record { reply = reply; law = lookup-law fits d c.args.directory (length c.args.work.now) _ reply; work = c.read.auto.buffer ∙ long }
+
+pub loop-block-preserved : goal.loop-block-preserved
+loop-block-preserved g c =
+    subst (Ahead (g.K.Key.meaning c.args.key.now) (g.D.BlockDevice.meaning c.args.device.now) c.args.directory (length c.args.work.now))
+    (omega (arith, c.loop-number-test.false, c.loop-number.auto, c.max-first.ensures, c.loop-block.auto.block)) c.loop-number.invariant
+
+pub returns : goal.returns
+returns g c =
+    let d = g.D.BlockDevice.meaning c.args.device.now in
+    let fits = g.K.Key.meaning c.args.key.now in
+    let len = length c.args.work.now in
+    let reply = at_last fits d c.args.directory len (max (39 * (c.loop-block.block - 1)) 3) c.loop-block.invariant
+    (omega (arith, c.loop-block-test.false, c.from-block-end.ensures)) in
+    record { reply = reply; law = lookup-law fits d c.args.directory len _ reply; work = c.loop-block.auto.work }
+
+pub returns-in_ok-read : goal.returns-in_ok-read
+returns-in_ok-read g c =
+    let d = g.D.BlockDevice.meaning c.args.device.now in
+    let fits = g.K.Key.meaning c.args.key.now in
+    let len = length c.args.work.now in
+    let reply = at_last fits d c.args.directory len c.loop-number.number c.loop-number.invariant (omega (arith, c.loop-number-test.false, c.from-block-end.ensures)) in
+    record { reply = reply; law = lookup-law fits d c.args.directory len _ reply; work = c.read.auto.buffer ∙ ap length c.in-Some.ensures.cases.same ∙ c.loop-block.auto.work }

@@ -1,12 +1,13 @@
-use Rattle.std.proofs.Common.{◌≡◌, ◌+◌, ◌*◌, ◌≤◌, length, None}
+use Rattle.std.proofs.Common.{◌-◌, ◌*◌, length, max}
 use Rattle.directory.proofs.Matching.{Ahead}
 use Rattle.directory.proofs.lookups.lookup.Given as goal
 
+-- the files from this one on are still ahead
 abbrev pub invariant-loop-number : goal.invariant-loop-number
 invariant-loop-number g l =
-    (l.found ≡ None) × Ahead (g.K.Key.meaning l.key) (g.D.BlockDevice.meaning l.device) l.directory (length l.initial.work) l.number
+    Ahead (g.K.Key.meaning l.key) (g.D.BlockDevice.meaning l.device) l.directory (length l.fn.work) l.number
 
-abbrev pub invariant-directory : goal.invariant-directory
-invariant-directory g l =
-    (l.found ≡ None) × (l.first ≤ 3)
-    × Ahead (g.K.Key.meaning l.key) (g.D.BlockDevice.meaning l.device) l.directory (length l.initial.work) (39 * l.block + l.first)
+-- those of this block and behind it are
+abbrev pub invariant-loop-block : goal.invariant-loop-block
+invariant-loop-block g l =
+    Ahead (g.K.Key.meaning l.key) (g.D.BlockDevice.meaning l.device) l.directory (length l.fn.work) (max (39 * (l.block - 1)) 3)
