@@ -1,9 +1,10 @@
 -- What the tests of an entry decide: an entry holds exactly if its test says so. Assumes nothing.
 use Rattle.std.proofs.Common.{◌≡◌, ℕ, zero, suc, ◌+◌, ◌-◌, ◌*◌, ◌/◌, ◌≤◌, Bool, true, false, cond, ◌&&◌, ◌||◌, eqb, ltb, leb, ◌⊎◌, List, [], ◌∷◌, length, get_or, is_some, Some, None, sym, refl, ap, ◌∙◌, ap₂, inl, inr, arith}
 use Rattle.std.proofs.lemmas.Bool.{and_from, and_parts, cases_Bool, cases_eq, cond-false, cond-true, eq-eqb, eqb-true, le-leb, le-ltb, leb-true, lt-ltb, ltb-false, ltb-true, ne_eqb, or_cases, or_left, or_right, true≢false}
+use Rattle.std.proofs.lemmas.Slice.Eq.{bytes_eq-Decides}
+use Rattle.std.specs.List.{list_any}
 use Rattle.std.specs.Str.{bytes_eq}
 use Rattle.blocks.specs.Devices.{Device, size_of}
-use Rattle.names.specs.Names.{characters}
 use Rattle.entry.specs.Fields.{check_bytes, check_of, first_of, last_of, name_of, room_of, used_of}
 use Rattle.entry.specs.Lengths.{blocks_for, length_of, split}
 use Rattle.directory.specs.Entries.{entry_at}
@@ -11,22 +12,10 @@ use Rattle.directory.specs.Judgements.{Holds, file_holds, has_etx, holds, is_pla
 use Rattle.directory.specs.Layouts.{HasEtx, IsLength, LiveFollows, Placed, VolumeFollows, directory_blocks, end_of, pack_blocks}
 use Rattle.directory.specs.Lookups.{is_blocks_left, is_deleted}
 
-less-suc : (a b : ℕ) → ltb (suc a) (suc b) ≡ ltb a b
-less-suc a b = go (ltb a b) refl
-  where
-    go : (t : Bool) → ltb a b ≡ t → ltb (suc a) (suc b) ≡ t
-    go true h = lt-ltb (suc a) (suc b) (omega (arith, ltb-true a b h))
-    go false h = le-ltb (suc a) (suc b) (omega (arith, ltb-false a b h))
-
--- a name ends before its field does exactly if an ETX ends it
-cuts : (b : ℕ) (rest : List ℕ) (t : Bool) → ltb (length (characters rest)) (length rest) ≡ has_etx rest
-    → ltb (length (cond t [] (b ∷ characters rest))) (suc (length rest)) ≡ t || has_etx rest
-cuts b rest true h = lt-ltb 0 (suc (length rest)) (omega arith)
-cuts b rest false h = less-suc (length (characters rest)) (length rest) ∙ h
-
-pub etx-cuts : (xs : List ℕ) → ltb (length (characters xs)) (length xs) ≡ has_etx xs
-etx-cuts [] = refl
-etx-cuts (b ∷ rest) = cuts b rest (eqb b 3) (etx-cuts rest)
+-- to find an ETX in a field is to test its bytes in their order
+pub any-etx : (xs : List ℕ) → list_any (λ b. eqb b 3) xs ≡ has_etx xs
+any-etx [] = refl
+any-etx (b ∷ rest) = ap (λ t. eqb b 3 || t) (any-etx rest)
 
 -- an ETX somewhere in a field
 etx-found : (xs : List ℕ) → has_etx xs ≡ true → HasEtx xs
@@ -42,16 +31,6 @@ etx-there [] i h = absurd (omega (arith, h))
 etx-there (b ∷ rest) zero h = or_left (eqb b 3) (has_etx rest) (eq-eqb b 3 h)
 etx-there (b ∷ rest) (suc i) h = or_right (eqb b 3) (has_etx rest) (etx-there rest i h)
 
-same-is : (xs ys : List ℕ) → bytes_eq xs ys ≡ true → xs ≡ ys
-same-is [] [] h = refl
-same-is [] (y ∷ ys) h = absurd (true≢false (sym h))
-same-is (x ∷ xs) [] h = absurd (true≢false (sym h))
-same-is (x ∷ xs) (y ∷ ys) h = let p = and_parts (eqb x y) (bytes_eq xs ys) h in ap₂ ◌∷◌ (eqb-true x y p.0) (same-is xs ys p.1)
-
-same_self : (xs : List ℕ) → bytes_eq xs xs ≡ true
-same_self [] = refl
-same_self (x ∷ xs) = and_from (eqb x x) (bytes_eq xs xs) (eq-eqb x x refl) (same_self xs)
-
 -- the volume's entry
 module _ (d : Device) where
   pub volume-follows : volume_holds (size_of d) (entry_at d 0) ≡ true → VolumeFollows d
@@ -62,7 +41,7 @@ module _ (d : Device) where
       let s = and_parts (leb (directory_blocks d + 1) (pack_blocks d)) _ r.1 in
       record {
         blocks = leb-true 2 (size_of d) p.0;
-        check = same-is (check_of (entry_at d 0)) check_bytes q.0;
+        check = (bytes_eq-Decides (check_of (entry_at d 0)) check_bytes).0 q.0;
         some = leb-true 1 (directory_blocks d) r.0;
         least = leb-true (directory_blocks d + 1) (pack_blocks d) s.0;
         most = leb-true (pack_blocks d) (size_of d) s.1;
@@ -70,7 +49,7 @@ module _ (d : Device) where
 
   volume-holds : VolumeFollows d → volume_holds (size_of d) (entry_at d 0) ≡ true
   volume-holds v =
-      and_from (leb 2 (size_of d)) _ (le-leb 2 (size_of d) v.blocks) (and_from (bytes_eq (check_of (entry_at d 0)) check_bytes) _ (ap (λ c. bytes_eq c check_bytes) v.check ∙ same_self check_bytes)
+      and_from (leb 2 (size_of d)) _ (le-leb 2 (size_of d) v.blocks) (and_from (bytes_eq (check_of (entry_at d 0)) check_bytes) _ ((bytes_eq-Decides (check_of (entry_at d 0)) check_bytes).1 v.check)
       (and_from (leb 1 (directory_blocks d)) _ (le-leb 1 (directory_blocks d) v.some)
       (and_from (leb (directory_blocks d + 1) (pack_blocks d)) _ (le-leb (directory_blocks d + 1) (pack_blocks d) v.least) (le-leb (pack_blocks d) (size_of d) v.most))))
 

@@ -6,7 +6,7 @@ ghost use Rattle.directory.specs.Seen.{head_fault};
 
 use crate::lookups::is_blocks_left;
 use entry::{Attribute, BLOCK, Entry};
-use names::characters;
+use names::ETX;
 
 // Whether the volume's entry is one of a device of so many blocks.
 pub(crate) fn volume_holds(volume: &Entry, size: u32) -> bool
@@ -30,7 +30,7 @@ fn is_placed(entry: &Entry, first: u32, room: u16) -> bool
 fn has_etx(field: &[u8]) -> bool
     ensures { result ≡ has_etx field.now }
 {
-    characters(field).len() < field.len()
+    field.contains(&ETX)
 }
 
 // Whether a file has an ETX in its name and, if it is live, a length within its room.

@@ -22,10 +22,7 @@ const NINES: Entry = Entry { bytes: [9; 26] };
 
 // Four blocks of sevens.
 fn image(heap: Global, protected: bool) -> Result<Image, Fail> {
-    let Ok(image) = Image::new(vec![in heap; 7; 4096]?, protected) else {
-        return Err(Fail::new("four blocks are an image"));
-    };
-    Ok(image)
+    Ok(Image::new(vec![in heap; 7; 4096]?, protected)?)
 }
 
 // Checks that an image is of sevens but for 26 nines from there on.
@@ -45,9 +42,7 @@ fn check_entry<D: BlockDevice>(
     number: u32,
     bytes: [u8; 26],
 ) -> Result<(), Fail> {
-    let Ok(entry) = read_entry(device, number, &mut [0; 1024]) else {
-        return Err(Fail::new("the entry can be read"));
-    };
+    let entry = read_entry(device, number, &mut [0; 1024])?;
     assert!(rt; entry.bytes == bytes);
     Ok(())
 }
@@ -60,10 +55,7 @@ fn check_neither<D: BlockDevice>(
     work: &mut [u8],
     refusal: Refusal,
 ) -> Result<(), Fail> {
-    let Err(told) = read_entry(device, number, work) else {
-        return Err(Fail::new("the entry cannot be read"));
-    };
-    assert_eq!(rt; told, refusal);
+    assert_eq!(rt; read_entry(device, number, work).err(), Some(refusal));
     assert_eq!(rt; write_entry(device, number, &NINES, work), Err(refusal));
     Ok(())
 }
@@ -116,12 +108,10 @@ fn a_protected_image_is_read_and_not_written(rt: HostRuntime) -> Result<(), Fail
 #[test]
 fn a_bad_block_is_told_as_the_device_tells_it(rt: HostRuntime) -> Result<(), Fail> {
     let mut bytes = vec![in rt.alloc(); 0; 164160]?;
-    for byte in bytes.as_mut_slice().iter_mut().skip(513 * 7 + 512).take(1) {
-        *byte = 1;
+    if let Some(status) = bytes.as_mut_slice().get_mut(513 * 7 + 512) {
+        *status = 1;
     }
-    let Ok(mut disk) = SectorDisk::new(bytes, false) else {
-        return Err(Fail::new("320 records are a disk"));
-    };
+    let mut disk = SectorDisk::new(bytes, false)?;
     let refusal = Refusal::BadBlock { depth: 0, place: 1 };
     check_neither(&rt, &mut disk, 0, &mut [0; 1024], refusal)?;
     check_neither(&rt, &mut disk, 38, &mut [0; 1024], refusal)?;

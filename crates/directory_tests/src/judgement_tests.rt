@@ -24,18 +24,7 @@ const SAMPLE_PACK: Pack = Pack {
 };
 
 fn sample(heap: Global, changes: &[Change]) -> Result<Vec<u8>, AllocError> {
-    let mut bytes = begun(heap, 12, 2, 10)?;
-    for (entry, file) in SAMPLE {
-        put_file(bytes.as_mut_slice(), entry, file);
-    }
-    change_all(bytes.as_mut_slice(), changes);
-    Ok(bytes)
-}
-
-fn change_all(bytes: &mut [u8], changes: &[Change]) {
-    for entry in changes {
-        change(bytes, *entry);
-    }
+    changed(heap, (12, 2, 10), &SAMPLE, changes)
 }
 
 fn check_judged<D: BlockDevice>(
@@ -58,7 +47,7 @@ fn check_broken(rt: &impl Abort, heap: Global, changes: &[Change], entry: u16) -
 
 // The size of a device, the blocks of the directory and of the pack; the BLOCKS LEFT entry and its room. It is the
 // first that can be one, the last of a block, the first of a block and the last of a directory.
-const FILLED: [((u16, u8, u32), u16, u16); 12] = [
+const FILLED: [(Sizes, u16, u16); 12] = [
     ((2, 1, 2), 3, 0),
     ((8, 1, 5), 38, 3),
     ((8, 2, 8), 38, 5),
@@ -370,6 +359,7 @@ fn a_bad_block_below_a_layer(rt: HostRuntime) -> Result<(), Fail> {
         filled(rt.alloc(), (12, 3, 10), 116, 6)?,
         &BLOCK_2,
     )?;
+    // no `?`: the disk that would be handed back has no Debug
     let Ok(window) = Window::new(disk, 0, 10) else {
         return Err(Fail::new("a disk has ten blocks"));
     };

@@ -1,7 +1,7 @@
 // Which file a lookup gives.
 use crate::packs::*;
 use blocks::{BlockDevice, Image};
-use directory::{Found, lookup, read_entry};
+use directory::{Found, Key, lookup, read_entry};
 use names::{Stem, WholeName};
 use refusal::Refusal;
 use std::alloc::{AllocError, Global};
@@ -31,74 +31,35 @@ const FILES: [(u16, File); 13] = [
 
 // A device of four blocks with that directory.
 fn files(heap: Global, changes: &[Change]) -> Result<Vec<u8>, AllocError> {
-    let mut bytes = begun(heap, 4, 3, 4)?;
-    for (entry, file) in FILES {
-        put_file(bytes.as_mut_slice(), entry, file);
-    }
-    for entry in changes {
-        change(bytes.as_mut_slice(), *entry);
-    }
-    Ok(bytes)
+    changed(heap, (4, 3, 4), &FILES, changes)
 }
 
-// Checks the number that a lookup gives, and that the entry it gives is the one of that number.
-fn check_found<D: BlockDevice>(
+// Checks the number that a lookup gave, and that the entry it gave is the one of that number.
+fn check_reply<D: BlockDevice>(
     rt: &impl Abort,
     device: &D,
     reply: Result<Option<Found>, Refusal>,
     expected: Result<Option<u32>, Refusal>,
 ) -> Result<(), Fail> {
-    let number = match reply {
-        Ok(Some(found)) => {
-            let Ok(entry) = read_entry(device, found.number, &mut [0; 1024]) else {
-                return Err(Fail::new("what was found can be read"));
-            };
-            assert!(rt; entry.bytes == found.entry.bytes);
-            Ok(Some(found.number))
-        }
-        Ok(None) => Ok(None),
-        Err(refusal) => Err(refusal),
-    };
+    if let Ok(Some(found)) = reply {
+        let entry = read_entry(device, found.number, &mut [0; 1024])?;
+        assert!(rt; entry.bytes == found.entry.bytes);
+    }
+    let number = reply.map(|found| found.map(|found| found.number));
     assert_eq!(rt; number, expected);
     Ok(())
 }
 
-// Checks what a lookup by a whole name gives.
-fn check_whole<D: BlockDevice>(
+// Checks what a lookup by a key gives.
+fn check_found<D: BlockDevice, K: Key>(
     rt: &impl Abort,
     device: &D,
     directory: u8,
-    name: &[u8],
+    key: &K,
     expected: Result<Option<u32>, Refusal>,
 ) -> Result<(), Fail> {
-    let Ok(key) = WholeName::new(name) else {
-        return Err(Fail::new("this is a whole name"));
-    };
-    check_found(
-        rt,
-        device,
-        lookup(device, directory, &key, &mut [0; 1024]),
-        expected,
-    )
-}
-
-// Checks what a lookup by a stem gives.
-fn check_stem<D: BlockDevice>(
-    rt: &impl Abort,
-    device: &D,
-    directory: u8,
-    name: &[u8],
-    expected: Result<Option<u32>, Refusal>,
-) -> Result<(), Fail> {
-    let Ok(key) = Stem::new(name) else {
-        return Err(Fail::new("this is a stem"));
-    };
-    check_found(
-        rt,
-        device,
-        lookup(device, directory, &key, &mut [0; 1024]),
-        expected,
-    )
+    let reply = lookup(device, directory, key, &mut [0; 1024]);
+    check_reply(rt, device, reply, expected)
 }
 
 #[test]
@@ -121,8 +82,8 @@ fn by_a_whole_name(rt: HostRuntime) -> Result<(), Fail> {
         (b"VOLUME", None),
         (b"BEHINDH", None),
     ] {
-        check_whole(&rt, &image, 2, name, Ok(expected))?;
-        check_whole(&rt, &image, 3, name, Ok(expected))?;
+        check_found(&rt, &image, 2, &WholeName::new(name)?, Ok(expected))?;
+        check_found(&rt, &image, 3, &WholeName::new(name)?, Ok(expected))?;
     }
     Ok(())
 }
@@ -148,8 +109,8 @@ fn by_a_stem(rt: HostRuntime) -> Result<(), Fail> {
         (b"BLOCKS LEF", None),
         (b"BEHIND", None),
     ] {
-        check_stem(&rt, &image, 2, name, Ok(expected))?;
-        check_stem(&rt, &image, 3, name, Ok(expected))?;
+        check_found(&rt, &image, 2, &Stem::new(name)?, Ok(expected))?;
+        check_found(&rt, &image, 3, &Stem::new(name)?, Ok(expected))?;
     }
     Ok(())
 }
@@ -158,21 +119,27 @@ fn by_a_stem(rt: HostRuntime) -> Result<(), Fail> {
 #[test]
 fn no_blocks_left_entry(rt: HostRuntime) -> Result<(), Fail> {
     let image = image(files(rt.alloc(), &[(40, 12, 1, 0)])?)?;
-    check_whole(&rt, &image, 2, b"BEHINDH", Ok(Some(41)))?;
-    check_whole(&rt, &image, 1, b"BEHINDH", Ok(None))?;
-    check_whole(&rt, &image, 1, b"NEXTH", Ok(None))?;
-    check_whole(&rt, &image, 1, b"LASTH", Ok(Some(38)))?;
-    check_stem(&rt, &image, 2, b"BLOCKS LEF", Ok(Some(40)))?;
-    check_stem(&rt, &image, 3, b"BOO", Ok(None))?;
+    check_found(&rt, &image, 2, &WholeName::new(b"BEHINDH")?, Ok(Some(41)))?;
+    check_found(&rt, &image, 1, &WholeName::new(b"BEHINDH")?, Ok(None))?;
+    check_found(&rt, &image, 1, &WholeName::new(b"NEXTH")?, Ok(None))?;
+    check_found(&rt, &image, 1, &WholeName::new(b"LASTH")?, Ok(Some(38)))?;
+    check_found(&rt, &image, 2, &Stem::new(b"BLOCKS LEF")?, Ok(Some(40)))?;
+    check_found(&rt, &image, 3, &Stem::new(b"BOO")?, Ok(None))?;
     // the device has no block 4
-    check_stem(&rt, &image, 4, b"BOO", Err(Refusal::OutOfRange))
+    check_found(
+        &rt,
+        &image,
+        4,
+        &Stem::new(b"BOO")?,
+        Err(Refusal::OutOfRange),
+    )
 }
 
 #[test]
 fn a_directory_of_no_block(rt: HostRuntime) -> Result<(), Fail> {
     let image = image(files(rt.alloc(), &[])?)?;
-    check_whole(&rt, &image, 0, b"LOGA", Ok(None))?;
-    check_stem(&rt, &image, 0, b"LOG", Ok(None))
+    check_found(&rt, &image, 0, &WholeName::new(b"LOGA")?, Ok(None))?;
+    check_found(&rt, &image, 0, &Stem::new(b"LOG")?, Ok(None))
 }
 
 // The BLOCKS LEFT entry ends the lookup, even where it is also a deleted file's.
@@ -180,8 +147,8 @@ fn a_directory_of_no_block(rt: HostRuntime) -> Result<(), Fail> {
 fn a_blocks_left_entry_before_the_files(rt: HostRuntime) -> Result<(), Fail> {
     for attributes in [0x01, 0x05, 0xff] {
         let image = image(files(rt.alloc(), &[(5, 12, 1, attributes)])?)?;
-        check_whole(&rt, &image, 2, b"LOGA", Ok(None))?;
-        check_stem(&rt, &image, 2, b"LOG", Ok(None))?;
+        check_found(&rt, &image, 2, &WholeName::new(b"LOGA")?, Ok(None))?;
+        check_found(&rt, &image, 2, &Stem::new(b"LOG")?, Ok(None))?;
     }
     Ok(())
 }
@@ -193,21 +160,21 @@ fn a_bad_block(rt: HostRuntime) -> Result<(), Fail> {
     let second = Err(Refusal::BadBlock { depth: 0, place: 2 });
     for at in BLOCK_1 {
         let disk = disk(heap, files(heap, &[])?, &[at])?;
-        check_whole(&rt, &disk, 2, b"LOGA", first)?;
-        check_stem(&rt, &disk, 2, b"NEXT", first)?;
-        check_whole(&rt, &disk, 0, b"LOGA", Ok(None))?;
+        check_found(&rt, &disk, 2, &WholeName::new(b"LOGA")?, first)?;
+        check_found(&rt, &disk, 2, &Stem::new(b"NEXT")?, first)?;
+        check_found(&rt, &disk, 0, &WholeName::new(b"LOGA")?, Ok(None))?;
     }
     for at in BLOCK_2 {
         let disk = disk(heap, files(heap, &[])?, &[at])?;
-        check_whole(&rt, &disk, 2, b"LOGA", Ok(Some(6)))?;
-        check_whole(&rt, &disk, 2, b"LASTH", Ok(Some(38)))?;
-        check_whole(&rt, &disk, 2, b"NEXTH", second)?;
-        check_whole(&rt, &disk, 2, b"GONEH", second)?;
-        check_whole(&rt, &disk, 1, b"GONEH", Ok(None))?;
+        check_found(&rt, &disk, 2, &WholeName::new(b"LOGA")?, Ok(Some(6)))?;
+        check_found(&rt, &disk, 2, &WholeName::new(b"LASTH")?, Ok(Some(38)))?;
+        check_found(&rt, &disk, 2, &WholeName::new(b"NEXTH")?, second)?;
+        check_found(&rt, &disk, 2, &WholeName::new(b"GONEH")?, second)?;
+        check_found(&rt, &disk, 1, &WholeName::new(b"GONEH")?, Ok(None))?;
     }
     for at in BLOCK_3 {
         let disk = disk(heap, files(heap, &[])?, &[at])?;
-        check_whole(&rt, &disk, 3, b"BEHINDH", Ok(None))?;
+        check_found(&rt, &disk, 3, &WholeName::new(b"BEHINDH")?, Ok(None))?;
     }
     Ok(())
 }
@@ -220,10 +187,8 @@ fn check_work(
     work: &mut [u8],
     expected: Result<Option<u32>, Refusal>,
 ) -> Result<(), Fail> {
-    let Ok(key) = Stem::new(b"LOG") else {
-        return Err(Fail::new("this is a stem"));
-    };
-    check_found(rt, image, lookup(image, directory, &key, work), expected)
+    let reply = lookup(image, directory, &Stem::new(b"LOG")?, work);
+    check_reply(rt, image, reply, expected)
 }
 
 #[test]
@@ -250,20 +215,10 @@ fn a_key_sees_every_byte(rt: HostRuntime) -> Result<(), Fail> {
         put_file(bytes.as_mut_slice(), 6, file);
         put_file(bytes.as_mut_slice(), 7, file);
         let same = image(bytes.clone()?)?;
-        check_found(
-            &rt,
-            &same,
-            lookup(&same, 2, &key, &mut [0; 1024]),
-            Ok(Some(6)),
-        )?;
+        check_found(&rt, &same, 2, &key, Ok(Some(6)))?;
         change(bytes.as_mut_slice(), (6, at, 1, *byte ^ 0x08));
         let other = image(bytes)?;
-        check_found(
-            &rt,
-            &other,
-            lookup(&other, 2, &key, &mut [0; 1024]),
-            Ok(Some(7)),
-        )?;
+        check_found(&rt, &other, 2, &key, Ok(Some(7)))?;
     }
     Ok(())
 }

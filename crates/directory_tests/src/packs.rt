@@ -35,6 +35,12 @@ pub(crate) fn put_file(bytes: &mut [u8], entry: u16, file: File) {
     put(bytes, entry, 23, &[0x55, 3, 5]);
 }
 
+pub(crate) fn change_all(bytes: &mut [u8], changes: &[Change]) {
+    for entry in changes {
+        change(bytes, *entry);
+    }
+}
+
 pub(crate) fn change(bytes: &mut [u8], (entry, at, count, value): Change) {
     let from = place_of(entry).saturating_add(at);
     for byte in bytes.iter_mut().skip(from).take(count) {
@@ -42,14 +48,11 @@ pub(crate) fn change(bytes: &mut [u8], (entry, at, count, value): Change) {
     }
 }
 
-// The bytes of a device of so many blocks, on which a pack begins: its volume has a directory of so many blocks, and so
-// many blocks in all.
-pub(crate) fn begun(
-    heap: Global,
-    size: u16,
-    directory: u8,
-    blocks: u32,
-) -> Result<Vec<u8>, AllocError> {
+// The blocks of a device, and those of the directory and of the pack on it.
+pub(crate) type Sizes = (u16, u8, u32);
+
+// The bytes of a device on which a pack begins: what its volume, its boot block and its directory have as entries.
+fn begun(heap: Global, (size, directory, blocks): Sizes) -> Result<Vec<u8>, AllocError> {
     let mut bytes = vec![in heap; 0; 1024 * usize::from(size)]?;
     let room = u16::from(directory);
     let all = bytes.as_mut_slice();
@@ -61,14 +64,30 @@ pub(crate) fn begun(
     Ok(bytes)
 }
 
+// Such a pack with these files, and then with these changes.
+pub(crate) fn changed(
+    heap: Global,
+    sizes: Sizes,
+    files: &[(u16, File)],
+    changes: &[Change],
+) -> Result<Vec<u8>, AllocError> {
+    let mut bytes = begun(heap, sizes)?;
+    for (entry, file) in files {
+        put_file(bytes.as_mut_slice(), *entry, *file);
+    }
+    change_all(bytes.as_mut_slice(), changes);
+    Ok(bytes)
+}
+
 // Such a pack with a BLOCKS LEFT entry of some room in an entry, and with files of no room in all entries before it.
 pub(crate) fn filled(
     heap: Global,
-    (size, directory, blocks): (u16, u8, u32),
+    sizes: Sizes,
     left: u16,
     free: u16,
 ) -> Result<Vec<u8>, AllocError> {
-    let mut bytes = begun(heap, size, directory, blocks)?;
+    let (_, directory, _) = sizes;
+    let mut bytes = begun(heap, sizes)?;
     let first = 1 + u32::from(directory);
     for entry in 3..left {
         put_file(
@@ -86,17 +105,7 @@ pub(crate) fn filled(
 }
 
 pub(crate) fn image(bytes: Vec<u8>) -> Result<Image, Fail> {
-    let Ok(image) = Image::new(bytes, false) else {
-        return Err(Fail::new("whole blocks are an image"));
-    };
-    Ok(image)
-}
-
-fn whole_disk(bytes: Vec<u8>) -> Result<SectorDisk, Fail> {
-    let Ok(disk) = SectorDisk::new(bytes, false) else {
-        return Err(Fail::new("320 records are a disk"));
-    };
-    Ok(disk)
+    Ok(Image::new(bytes, false)?)
 }
 
 // The status bytes of the records that keep the two halves of block 1, of block 2 and of block 3.
@@ -112,18 +121,17 @@ pub(crate) const BLOCK_0_AND_4: [usize; 2] = [512, 513 * 8 + 512];
 // A disk that begins with the blocks of a pack, with a status of 1 in these bytes.
 pub(crate) fn disk(heap: Global, pack: Vec<u8>, bad: &[usize]) -> Result<SectorDisk, Fail> {
     let image = image(pack)?;
-    let mut disk = whole_disk(vec![in heap; 0; 164160]?)?;
+    let mut disk = SectorDisk::new(vec![in heap; 0; 164160]?, false)?;
     for number in 0..image.size() {
         let mut block = [0; 1024];
-        if image.read(number, &mut block).is_err() || disk.write(number, &block).is_err() {
-            return Err(Fail::new("sound blocks are copied"));
-        }
+        image.read(number, &mut block)?;
+        disk.write(number, &block)?;
     }
     let mut bytes = disk.into_bytes();
     for at in bad {
-        for byte in bytes.as_mut_slice().iter_mut().skip(*at).take(1) {
-            *byte = 1;
+        if let Some(status) = bytes.as_mut_slice().get_mut(*at) {
+            *status = 1;
         }
     }
-    whole_disk(bytes)
+    Ok(SectorDisk::new(bytes, false)?)
 }

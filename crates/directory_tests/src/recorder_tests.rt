@@ -104,9 +104,7 @@ const LOOKUPS: [(u16, u16, &[u32]); 7] = [
 #[test]
 fn a_lookup_reads_no_further_than_its_end(rt: HostRuntime) -> Result<(), Fail> {
     let heap = rt.alloc();
-    let Ok(key) = Stem::new(b"LOG") else {
-        return Err(Fail::new("this is a stem"));
-    };
+    let key = Stem::new(b"LOG")?;
     for (found, left, blocks) in LOOKUPS {
         let mut pack = filled(heap, (8, 3, 8), left, 4)?;
         put_file(
@@ -124,9 +122,7 @@ fn a_lookup_reads_no_further_than_its_end(rt: HostRuntime) -> Result<(), Fail> {
 #[test]
 fn a_lookup_reads_no_block_but_the_directorys(rt: HostRuntime) -> Result<(), Fail> {
     let heap = rt.alloc();
-    let Ok(key) = Stem::new(b"LOG") else {
-        return Err(Fail::new("this is a stem"));
-    };
+    let key = Stem::new(b"LOG")?;
     for (directory, blocks) in [(0, &[][..]), (1, &[1]), (2, &[1, 2]), (3, &[1, 2, 3])] {
         let device = recording(heap, image(filled(heap, (8, 3, 8), 117, 4)?)?);
         let _ = lookup(&device, directory, &key, &mut [0; 1024]);

@@ -46,10 +46,8 @@ pub fn recording<D>(heap: Global, inner: D) -> Recorder<D, Reads>
 impl<D> Recorder<D, Reads> {
     // Whether these blocks were read, in this order, and no other.
     pub fn has_read(&self, blocks: &[u32]) -> bool {
-        match self.log.blocks.try_borrow() {
-            Ok(reads) => reads.as_slice() == blocks,
-            Err(_) => false,
-        }
+        let reads = self.log.blocks.try_borrow();
+        reads.is_ok_and(|reads| reads.as_slice() == blocks)
     }
 }
 

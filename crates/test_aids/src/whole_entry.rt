@@ -3,7 +3,6 @@ ghost use Rattle.std.specs.Str.{bytes_eq};
 
 use directory::Key;
 use entry::{ENTRY, Entry};
-use names::same_bytes;
 
 #[derive(Clone, Copy)]
 pub struct WholeEntry {
@@ -14,6 +13,6 @@ impl Key for WholeEntry {
     ghost meaning = { λ key bytes. bytes_eq bytes key.bytes };
 
     fn fits(&self, entry: &Entry) -> bool {
-        same_bytes(&entry.bytes, &self.bytes)
+        entry.bytes == self.bytes
     }
 }
