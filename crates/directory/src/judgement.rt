@@ -54,6 +54,7 @@ fn judge_files<D: BlockDevice>(
         room: 0,
     };
     seen.see_block(block, 3..PER_BLOCK);
+    // a loop and not a fold: a read may fail, and the rest is then not read
     for number in 2..=u16::from(counts.directory) {
         device.read(u32::from(number), block)?;
         seen.see_block(block, PER_BLOCK * (number - 1)..PER_BLOCK * number);

@@ -67,6 +67,7 @@ pub(crate) fn later_holds(entry: &Entry, blocks: u32, end: u64) -> bool
 pub(crate) fn head_fault(block: &[u8; BLOCK], directory: u8) -> Option<u16>
     ensures { result ≡ head_fault block.now directory }
 {
+    // two tests and not a search: each entry has a first block and a room of its own
     if !is_placed(&Entry::from_block(block, 1), 0, 1) {
         return Some(1);
     }

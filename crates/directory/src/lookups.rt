@@ -46,6 +46,7 @@ pub fn lookup<D: BlockDevice, K: Key>(
     ensures law { LookupLaw (K.Key.meaning key.now) (D.BlockDevice.meaning device.now) directory (length work.old) result }
     ensures work { WorkBlock work.old work.new }
 {
+    // loops and not a chain: each block is read only when all entries before it are passed, and a read may fail
     for block in 1..=u32::from(directory) {
         let Some(held) = work.as_mut_array::<BLOCK>() else {
             return Err(Refusal::OutOfRange);
