@@ -8,4 +8,4 @@ mod rules;
 
 pub use given::{ETX, characters, same, same_bytes};
 pub use name::{FIELD, Name, Stem, VolumeName, WholeName};
-pub use rules::{BLOCKS_LEFT, BOOT, DIRECTORY, Rule, StemRule, VolumeRule, WholeRule};
+pub use rules::{BLOCKS_LEFT, BOOT, DIRECTORY, FileRule, Rule, StemRule, VolumeRule, WholeRule};

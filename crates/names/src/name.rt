@@ -1,10 +1,10 @@
 // Names that keep their rules, held as name fields.
 ghost use Rattle.std.specs.Prelude.{◌≡◌, ◌≤◌, true, false, MatchResult, length, ⊤};
-ghost use Rattle.names.specs.Names.{characters as characters_of, fits_stem, fits_whole, name_field};
+ghost use Rattle.names.specs.Names.{characters as characters_of, name_field};
 ghost use Rattle.refusal.specs.declared.Refusal.TheVariants.{BadName};
 
-use crate::given::{ETX, characters, same};
-use crate::rules::{Rule, StemRule, VolumeRule, WholeRule};
+use crate::given::{ETX, characters};
+use crate::rules::{FileRule, Rule, StemRule, VolumeRule, WholeRule};
 use refusal::Refusal;
 use std::alloc::AllocError;
 use std::marker::PhantomData;
@@ -76,21 +76,11 @@ impl<R: Rule> Name<R> {
     }
 }
 
-impl Name<WholeRule> {
-    // Whether an entry with this name field has the name.
+impl<R: FileRule> Name<R> {
+    // Whether the name fits an entry with this name field.
     pub fn fits(&self, name: &[u8]) -> bool
-        ensures { result ≡ fits_whole self.now.field name.now }
+        ensures { result ≡ R.FileRule.fitting self.now.field name.now }
     {
-        same(&self.field, name)
-    }
-}
-
-impl Name<StemRule> {
-    // Whether an entry with this name field has the stem before its last character.
-    pub fn fits(&self, name: &[u8]) -> bool
-        ensures { result ≡ fits_stem self.now.field name.now }
-    {
-        let name = characters(name);
-        same(&self.field, &name[..name.len().saturating_sub(1)])
+        R::fits(&self.field, name)
     }
 }

@@ -1,6 +1,6 @@
 // The rules that names keep.
 ghost use Rattle.std.specs.Prelude.{◌≡◌, ◌≤◌, Bool, List, length, true, ℕ};
-ghost use Rattle.names.specs.Names.{characters as characters_of, is_reserved, is_stem, is_volume, is_whole, last_is_letter, name_field, printable, spelled};
+ghost use Rattle.names.specs.Names.{characters as characters_of, fits_stem, fits_whole, is_reserved, is_stem, is_volume, is_whole, last_is_letter, name_field, printable, spelled};
 ghost use Rattle.names.specs.Kept.{stem_field, stem_short, volume_field, volume_short, whole_field, whole_short};
 
 use crate::given::{characters, same};
@@ -55,6 +55,15 @@ pub trait Rule {
     ghost same: { (given : List ℕ) → rule (name_field given) ≡ rule given };
 }
 
+// A rule of the names that files are looked for by. It also says which entries such a name fits.
+pub trait FileRule: Rule {
+    ghost fitting: { List ℕ → List ℕ → Bool };
+
+    // Whether a name fits an entry with this name field.
+    fn fits(name: &[u8], field: &[u8]) -> bool
+        ensures { result ≡ fitting name.now field.now };
+}
+
 // A whole name: 2 to 11 characters, the last a letter, and no reserved name.
 #[derive(Clone, Copy)]
 pub struct WholeRule;
@@ -72,6 +81,15 @@ impl Rule for WholeRule {
     }
 }
 
+// The entry's name is that name.
+impl FileRule for WholeRule {
+    ghost fitting = { fits_whole };
+
+    fn fits(name: &[u8], field: &[u8]) -> bool {
+        same(name, field)
+    }
+}
+
 // A stem: 1 to 10 characters.
 #[derive(Clone, Copy)]
 pub struct StemRule;
@@ -85,6 +103,16 @@ impl Rule for StemRule {
 
     fn holds(given: &[u8]) -> bool {
         is_spelled(characters(given), 1, 10)
+    }
+}
+
+// The entry's name without its last character is that stem.
+impl FileRule for StemRule {
+    ghost fitting = { fits_stem };
+
+    fn fits(name: &[u8], field: &[u8]) -> bool {
+        let whole = characters(field);
+        same(name, &whole[..whole.len().saturating_sub(1)])
     }
 }
 
