@@ -1,4 +1,5 @@
 -- Finding a live file of a pack by its name. Assumes nothing.
+--   live, named         a live file that a name fits, and the first one
 --   by_whole, by_stem   the first live file that a name fits, taken as a whole name or as a stem
 --   looked_up           the file by its whole name or, where none fits, by its stem; or why there is none
 --   found_text          what the find command prints
@@ -14,6 +15,14 @@ use Rattle.listing.specs.Walks.{Found, directory_walked, first_that, entry_at, i
 use Rattle.listing.specs.declared.finds.Fit.{Fit}
 use Rattle.listing.specs.declared.finds.Fit.TheVariants.{Whole, Stem}
 use Rattle.listing.specs.declared.finds.Match.{Match}
+
+-- A live file that a name fits, by what it is for a name to fit.
+abbrev pub live : (List ℕ → List ℕ → Bool) → List ℕ → List ℕ → Bool
+live fits name bytes = not (is_deleted bytes) && fits name (name_of bytes)
+
+-- The first live file of a directory that a name fits, if the name keeps its rule.
+abbrev pub named : Bool → (List ℕ → List ℕ → Bool) → List ℕ → ℕ → List ℕ → Result (Option ℕ) Refusal
+named kept fits bytes left given = cond kept (Ok (first_that (live fits given) bytes 3 (left - 3))) (Err BadName)
 
 abbrev pub live_whole : List ℕ → List ℕ → Bool
 live_whole name bytes = not (is_deleted bytes) && fits_whole name (name_of bytes)

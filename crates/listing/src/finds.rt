@@ -3,14 +3,14 @@ ghost use Rattle.std.specs.Prelude.{◌≡◌, ◌<◌, IfSome, IfOk, Some, Ok, 
 ghost use Rattle.names.specs.Names.{is_stem, is_whole};
 ghost use Rattle.refusal.specs.declared.Refusal.TheVariants.{BadName};
 ghost use Rattle.listing.specs.Answered.{Answers};
-ghost use Rattle.listing.specs.Finds.{by_stem, by_whole, fit_text, found_text, looked_up, match_text};
+ghost use Rattle.listing.specs.Finds.{fit_text, found_text, looked_up, match_text, named};
 
 use crate::failure::Failure;
 use crate::files::{Files, is_deleted};
 use crate::load::load;
 use blocks::BlockDevice;
 use lines::row;
-use names::{Stem, WholeName};
+use names::{FileRule, Name, StemRule, WholeRule};
 use refusal::Refusal;
 use std::alloc::Global;
 use std::fmt;
@@ -32,28 +32,15 @@ pub(crate) struct Match {
 impl Files {
     ghost use Rattle.listing.specs.Walked.{bytes_of};
 
-    // The first live file that the name fits as a whole name.
-    fn by_whole(&self, given: &[u8]) -> Result<Option<u32>, Refusal>
-        ensures value { result ≡ (if is_whole given.now then Ok (by_whole (bytes_of self.now.directory) self.now.left given.now) else Err BadName) }
+    // The first live file that a name of that rule fits.
+    fn named<R: FileRule>(&self, given: &[u8]) -> Result<Option<u32>, Refusal>
+        ensures value { result ≡ named (R.Rule.rule given.now) R.FileRule.fitting (bytes_of self.now.directory) self.now.left given.now }
         ensures before { IfOk result (λ found. IfSome found (λ e. e < self.now.left)) }
     {
-        let name = WholeName::new(given)?;
+        let name = Name::<R>::new(given)?;
         Ok(
             self.directory.first(3, self.left, |entry| {
                 !is_deleted(entry) && name.fits(entry.name_field())
-            }),
-        )
-    }
-
-    // The first live file that the name fits as a stem.
-    fn by_stem(&self, given: &[u8]) -> Result<Option<u32>, Refusal>
-        ensures value { result ≡ (if is_stem given.now then Ok (by_stem (bytes_of self.now.directory) self.now.left given.now) else Err BadName) }
-        ensures before { IfOk result (λ found. IfSome found (λ e. e < self.now.left)) }
-    {
-        let stem = Stem::new(given)?;
-        Ok(
-            self.directory.first(3, self.left, |entry| {
-                !is_deleted(entry) && stem.fits(entry.name_field())
             }),
         )
     }
@@ -63,11 +50,14 @@ impl Files {
         ensures value { result ≡ looked_up (bytes_of self.now.directory) self.now.left given.now }
         ensures before { IfOk result (λ m. m.number < self.now.left) }
     {
-        match (self.by_whole(given), self.by_stem(given)) {
-            (Ok(Some(number)), _) => Ok(Match {
+        let whole = self.named::<WholeRule>(given);
+        if let Ok(Some(number)) = whole {
+            return Ok(Match {
                 number,
                 fit: Fit::Whole,
-            }),
+            });
+        }
+        match (whole, self.named::<StemRule>(given)) {
             (_, Ok(Some(number))) => Ok(Match {
                 number,
                 fit: Fit::Stem,

@@ -36,14 +36,9 @@ pub(crate) const BLOCKS_LEFT: &[u8; 26] =
 
 // Puts entries one after the other over bytes, from a place on.
 pub(crate) fn put_entries(bytes: &mut [u8], place: usize, entries: &[&[u8; 26]]) {
-    let mut at = place;
-    for entry in entries {
-        for byte in *entry {
-            if at < bytes.len() {
-                bytes[at] = *byte;
-                at += 1;
-            }
-        }
+    let values = entries.iter().flat_map(|entry| entry.iter());
+    for (byte, value) in bytes.iter_mut().skip(place).zip(values) {
+        *byte = *value;
     }
 }
 

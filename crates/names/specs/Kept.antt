@@ -2,11 +2,12 @@
 --   characters-field   a name field reads back as the name that it was made of
 --   field-field        a name field is its own name field
 --   whole_field, stem_field, volume_field   a name field keeps the rules that its name keeps
+--   whole_fits, stem_fits   a name field fits what its name fits
 --   whole_short, stem_short, volume_short   a name that keeps its rule has at most eleven characters
 use Rattle.std.proofs.Common.{◌≡◌, ℕ, ◌-◌, ◌≤◌, Bool, true, false, cond, not, ◌&&◌, ◌||◌, eqb, List, [], ◌∷◌, ◌++◌, length, replicate, codes, refl, ap, ◌∙◌, lit≤, le_trans, nat_le}
 use Rattle.std.proofs.lemmas.Bool.{and_parts, leb-true}
 use Rattle.std.specs.Str.{bytes_eq}
-use Rattle.names.specs.Names.{characters, is_stem, is_volume, is_whole, last_is_letter, name_field, spelled}
+use Rattle.names.specs.Names.{before_last, characters, fits_stem, fits_whole, is_stem, is_volume, is_whole, last_is_letter, name_field, spelled}
 
 -- characters with an ETX behind them read as themselves
 read-on : (b : ℕ) (t : Bool) (rest more : List ℕ) → eqb b 3 ≡ t → characters (rest ++ (3 ∷ more)) ≡ rest
@@ -46,3 +47,9 @@ stem_short given h = at_most 1 10 (characters given) (lit≤ tt) h
 
 pub volume_short : (given : List ℕ) → is_volume given ≡ true → length (characters given) ≤ 11
 volume_short given h = at_most 1 11 (characters given) (lit≤ tt) h
+
+pub whole_fits : (name field : List ℕ) → fits_whole (name_field name) field ≡ fits_whole name field
+whole_fits name field = ap (λ cs. bytes_eq cs (characters field)) (characters-field name)
+
+pub stem_fits : (stem field : List ℕ) → fits_stem (name_field stem) field ≡ fits_stem stem field
+stem_fits stem field = ap (λ cs. bytes_eq cs (characters (before_last (characters field)))) (characters-field stem)

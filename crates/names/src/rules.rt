@@ -1,7 +1,7 @@
 // The rules that names keep.
 ghost use Rattle.std.specs.Prelude.{◌≡◌, ◌≤◌, Bool, List, length, true, ℕ};
 ghost use Rattle.names.specs.Names.{characters as characters_of, fits_stem, fits_whole, is_reserved, is_stem, is_volume, is_whole, last_is_letter, name_field, printable, spelled};
-ghost use Rattle.names.specs.Kept.{stem_field, stem_short, volume_field, volume_short, whole_field, whole_short};
+ghost use Rattle.names.specs.Kept.{stem_field, stem_fits, stem_short, volume_field, volume_short, whole_field, whole_fits, whole_short};
 
 use crate::given::{characters, same};
 
@@ -62,6 +62,8 @@ pub trait FileRule: Rule {
     // Whether a name fits an entry with this name field.
     fn fits(name: &[u8], field: &[u8]) -> bool
         ensures { result ≡ fitting name.now field.now };
+
+    ghost alike: { (name field : List ℕ) → fitting (name_field name) field ≡ fitting name field };
 }
 
 // A whole name: 2 to 11 characters, the last a letter, and no reserved name.
@@ -84,6 +86,8 @@ impl Rule for WholeRule {
 // The entry's name is that name.
 impl FileRule for WholeRule {
     ghost fitting = { fits_whole };
+
+    ghost alike = { whole_fits };
 
     fn fits(name: &[u8], field: &[u8]) -> bool {
         same(name, field)
@@ -109,6 +113,8 @@ impl Rule for StemRule {
 // The entry's name without its last character is that stem.
 impl FileRule for StemRule {
     ghost fitting = { fits_stem };
+
+    ghost alike = { stem_fits };
 
     fn fits(name: &[u8], field: &[u8]) -> bool {
         let whole = characters(field);
