@@ -14,7 +14,7 @@ ghost use Rattle.unit.specs.Calls.{Admitted, Initialised, Writable, after, clear
 use crate::fresh::fill_first;
 use crate::shape::Shape;
 use crate::units::PackUnit;
-use blocks::{BLOCK, BlockDevice, Tab};
+use blocks::{BLOCK, BlockDevice};
 use model::OpenTable;
 use names::VolumeName;
 use refusal::Refusal;
@@ -28,16 +28,6 @@ fn check_shape(size: u32, directory: u32, blocks: u32) -> Result<(), Refusal>
         return Err(Refusal::OutOfRange);
     }
     Ok(())
-}
-
-// The write-protect tab must be off.
-fn check_tab(tab: Tab) -> Result<(), Refusal>
-    ensures { result ≡ after (tab_stage tab) (Ok tt) }
-{
-    match tab {
-        Tab::Off => Ok(()),
-        Tab::On { depth } => Err(Refusal::WriteProtected { depth }),
-    }
 }
 
 // Reads blocks 1 to d: none of them may be bad.
@@ -67,7 +57,7 @@ fn admit<D: BlockDevice>(
 {
     check_shape(device.size(), directory, blocks)?;
     let name = VolumeName::new(name)?;
-    check_tab(device.tab())?;
+    device.tab().check()?;
     check_blocks(device, directory, work)?;
     // casts and not `try_from`, which could not fail: the numbers were tested
     Ok(Shape {
