@@ -17,7 +17,8 @@ pub fn characters(given: &[u8]) -> &[u8]
     &given[..end]
 }
 
-// Whether two byte strings are the same, byte for byte.
+// Whether two byte strings are the same, byte for byte. A function and not `==` at each place, so that what `==` of
+// slices says is turned into `bytes_eq` once.
 pub fn same_bytes(one: &[u8], other: &[u8]) -> bool
     ensures { result ≡ bytes_eq one.now other.now }
 {

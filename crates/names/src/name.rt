@@ -20,7 +20,7 @@ pub struct Name<R: Rule> {
     ghost padded: { field ≡ name_field field },
 }
 
-// By hand: no derive copies a struct whose ghost fields cite a bound.
+// By hand: `derive` and `derive_where` both refuse a struct whose ghost fields cite a bound.
 impl<R: Rule> Clone for Name<R> {
     ghost is_clone = { λ name copy. copy ≡ name };
 
@@ -78,9 +78,9 @@ impl<R: Rule> Name<R> {
 
 impl<R: FileRule> Name<R> {
     // Whether the name fits an entry with this name field.
-    pub fn fits(&self, name: &[u8]) -> bool
-        ensures { result ≡ R.FileRule.fitting self.now.field name.now }
+    pub fn fits(&self, field: &[u8]) -> bool
+        ensures { result ≡ R.FileRule.fitting self.now.field field.now }
     {
-        R::fits(&self.field, name)
+        R::fits(&self.field, field)
     }
 }

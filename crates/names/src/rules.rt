@@ -122,7 +122,8 @@ impl FileRule for StemRule {
     }
 }
 
-// A volume's name: 1 to 11 characters.
+// A volume's name: 1 to 11 characters. A rule beside the stem's, and not one with the highest number as a constant: a
+// rule with a number above 11 would not be short.
 #[derive(Clone, Copy)]
 pub struct VolumeRule;
 
