@@ -36,17 +36,17 @@ fn initialise(
     heap: Global,
     name: Name<'_>,
     directory: u32,
-    size: u32,
+    blocks: u32,
     work: u32,
 ) -> Result<Request, AllocError>
-    ensures { IfOk result (λ call. meant call ≡ initialise_call work (name_bytes name.entry) directory size) }
+    ensures { IfOk result (λ call. meant call ≡ initialise_call work (name_bytes name.entry) directory blocks) }
 {
     let name = name_bytes(heap, name)?;
     let work = zeros(heap, work)?;
     Ok(Request::Initialise {
         name,
         directory,
-        blocks: size,
+        blocks,
         work,
     })
 }
@@ -99,11 +99,11 @@ fn line_of(heap: Global, what: Asked<'_>, work: u32) -> Result<Line, AllocError>
         Asked::Init {
             name,
             directory,
-            size,
-        } => Ok(Line::Call(initialise(heap, name, directory, size, work)?)),
-        Asked::TakeUp => Ok(Line::Call(take_up(heap, work)?)),
-        Asked::Find { kind, name, len } => Ok(Line::Call(find(heap, kind, name, len, work)?)),
-        Asked::Show { entry, len } => Ok(Line::Call(show(heap, entry, len, work)?)),
+            blocks,
+        } => initialise(heap, name, directory, blocks, work).map(Line::Call),
+        Asked::TakeUp => take_up(heap, work).map(Line::Call),
+        Asked::Find { kind, name, len } => find(heap, kind, name, len, work).map(Line::Call),
+        Asked::Show { entry, len } => show(heap, entry, len, work).map(Line::Call),
         Asked::Work { len } => Ok(Line::Work { len }),
     }
 }

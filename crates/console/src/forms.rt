@@ -61,7 +61,7 @@ pub(crate) enum Asked<'a> {
     Init {
         name: Name<'a>,
         directory: u32,
-        size: u32,
+        blocks: u32,
     },
     TakeUp,
     Find {
@@ -121,14 +121,14 @@ fn init_of(left: &[u8]) -> Option<Asked<'_>>
 {
     let (name, left) = next_field(left)?;
     let (directory, left) = next_field(left)?;
-    let size = last_field(left)?;
+    let blocks = last_field(left)?;
     let name = name_of(name)?;
     let directory = number_of(directory)?;
-    let size = number_of(size)?;
+    let blocks = number_of(blocks)?;
     Some(Asked::Init {
         name,
         directory,
-        size,
+        blocks,
     })
 }
 
@@ -168,7 +168,8 @@ fn work_of(left: &[u8]) -> Option<Asked<'_>>
     Some(Asked::Work { len })
 }
 
-// What the fields behind the first word ask for, if they have the form.
+// What the fields behind the first word ask for, if they have the form. A second match beside that of `form_of`, and not
+// one of both: of one match over the words, each with its way to read the fields, no proof was found.
 fn in_form(form: Expected, left: &[u8]) -> Option<Asked<'_>>
     ensures { option_map stands_for result ≡ in_form form (later left.now) }
 {

@@ -1,5 +1,5 @@
 // The line that is printed of a reply.
-ghost use Rattle.std.specs.Prelude.{◌≡◌, ◌++◌, IfOk, string_bytes};
+ghost use Rattle.std.specs.Prelude.{◌≡◌, IfOk, string_bytes};
 ghost use Rattle.console.specs.Replies.{done_text, hex_text, refused_text, reply_text};
 ghost use Rattle.requests.specs.Values.{told};
 

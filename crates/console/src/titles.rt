@@ -1,6 +1,6 @@
 // Names on a line: `'text'`, or `hex:` and the digits of each byte.
-ghost use Rattle.std.specs.Prelude.{◌≡◌, ◌≤◌, ◌++◌, IfOk};
-ghost use Rattle.console.specs.Titles.{all_digits, all_plain, hex_bytes, hex_digits, is_hex_digit, is_plain, is_quoted, name_of, name_bytes, pair_value, quoted_text, hex_value};
+ghost use Rattle.std.specs.Prelude.{◌≡◌, ◌≤◌, IfOk};
+ghost use Rattle.console.specs.Titles.{all_digits, all_plain, hex_bytes, hex_digits, is_plain, name_of, name_bytes, pair_value, quoted_text, hex_value};
 ghost use Rattle.std.specs.Option.{option_map};
 
 use std::alloc::{AllocError, Global};

@@ -1,3 +1,4 @@
+-- Each word is read back from its bytes. The check finds this alone, but near the limits of its search.
 use Rattle.std.proofs.Common.{codes, arith}
 use Rattle.std.proofs.lemmas.Slice.Eq.{text_from_reads}
 use Rattle.console.proofs.forms.form_of.Goals as goal

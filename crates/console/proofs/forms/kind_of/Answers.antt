@@ -1,3 +1,4 @@
+-- As in `form_of`: found alone, but near the limits of the search.
 use Rattle.std.proofs.Common.{codes, arith}
 use Rattle.std.proofs.lemmas.Slice.Eq.{text_from_reads}
 use Rattle.console.proofs.forms.kind_of.Goals as goal
