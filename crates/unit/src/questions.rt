@@ -1,5 +1,7 @@
 // Find and show: they change neither the unit nor the device.
-ghost use Rattle.std.specs.Prelude.{◌≡◌, ◌≤◌, ◌++◌, length, drop};
+ghost use Rattle.std.specs.Prelude.{◌≡◌, ◌≤◌, ◌++◌, length, drop, Err, if◌then◌else◌};
+ghost use Rattle.refusal.specs.declared.Refusal.TheVariants.{BadName};
+ghost use Rattle.entry.specs.Fields.{name_of};
 ghost use Rattle.directory.specs.Entries.{WorkBlock};
 ghost use Rattle.directory.specs.Lookups.{lookup_reply};
 ghost use Rattle.model.specs.Represents.{Turns};
@@ -12,10 +14,23 @@ use blocks::BlockDevice;
 use directory::{Found, Pack, lookup, read_entry};
 use entry::ENTRY;
 use model::NameKind;
-use names::{Stem, WholeName};
+use names::{FileRule, Name, StemRule, WholeRule};
 use refusal::Refusal;
 
-// The first live file that a name fits.
+// The first live file that a name of that rule fits.
+fn found_by<R: FileRule, D: BlockDevice>(
+    device: &D,
+    pack: Pack,
+    name: &[u8],
+    work: &mut [u8],
+) -> Result<Option<Found>, Refusal>
+    ensures { result ≡ (if R.Rule.rule name.now then lookup_reply (λ bytes. R.FileRule.fitting name.now (name_of bytes)) (D.BlockDevice.meaning device.now) pack.directory (length work.old) else Err BadName) }
+{
+    let key = Name::<R>::new(name)?;
+    lookup(device, pack.directory, &key, work)
+}
+
+// The first live file that a name of that kind fits.
 fn find_named<D: BlockDevice>(
     device: &D,
     pack: Pack,
@@ -23,12 +38,11 @@ fn find_named<D: BlockDevice>(
     name: &[u8],
     work: &mut [u8],
 ) -> Result<Option<Found>, Refusal>
-    ensures reply { result ≡ named (D.BlockDevice.meaning device.now) kind name.now (length work.old) pack }
-    ensures work { WorkBlock work.old work.new }
+    ensures { result ≡ named (D.BlockDevice.meaning device.now) kind name.now (length work.old) pack }
 {
     match kind {
-        NameKind::Whole => lookup(device, pack.directory, &WholeName::new(name)?, work),
-        NameKind::Stem => lookup(device, pack.directory, &Stem::new(name)?, work),
+        NameKind::Whole => found_by::<WholeRule, D>(device, pack, name, work),
+        NameKind::Stem => found_by::<StemRule, D>(device, pack, name, work),
     }
 }
 
@@ -60,8 +74,7 @@ impl<D: BlockDevice> PackUnit<D> {
         buffer: &[u8],
         work: &mut [u8],
     ) -> Result<Found, Refusal>
-        ensures reply { result ≡ file_found self.now.state (D.BlockDevice.meaning self.now.device) (length work.old) kind name.now buffer.now }
-        ensures work { WorkBlock work.old work.new }
+        ensures { result ≡ file_found self.now.state (D.BlockDevice.meaning self.now.device) (length work.old) kind name.now buffer.now }
     {
         let pack = self.asked(buffer, work)?;
         find_named(&self.device, pack, kind, name, work)?.ok_or(Refusal::NoSuchFile)
@@ -69,17 +82,15 @@ impl<D: BlockDevice> PackUnit<D> {
 
     // The file that show is about, or why there is none.
     fn show_file(&self, entry: u32, buffer: &[u8], work: &mut [u8]) -> Result<Found, Refusal>
-        ensures reply { result ≡ file_shown self.now.state (D.BlockDevice.meaning self.now.device) (length work.old) entry buffer.now }
-        ensures work { WorkBlock work.old work.new }
+        ensures { result ≡ file_shown self.now.state (D.BlockDevice.meaning self.now.device) (length work.old) entry buffer.now }
     {
         let pack = self.asked(buffer, work)?;
         if entry < 3 || entry >= pack.left {
             return Err(Refusal::NoSuchFile);
         }
-        let bytes = read_entry(&self.device, entry, work)?;
         Ok(Found {
             number: entry,
-            entry: bytes,
+            entry: read_entry(&self.device, entry, work)?,
         })
     }
 
