@@ -1,9 +1,9 @@
 -- Find and show answer as the model's steps do. Assumes nothing.
 use Rattle.std.proofs.Common.{◌≡◌, ℕ, ◌+◌, ◌-◌, ◌<◌, ◌≤◌, Bool, true, false, cond, ◌&&◌, eqb, ltb, leb, ◌⊎◌, List, ◌++◌, length, drop, is_some, Some, None, Ok, Err, Option, Result, sym, refl, ap, ◌∙◌, subst, inl, inr, arith}
-use Rattle.std.proofs.lemmas.Bool.{and_cases, and_parts, leb-false, leb-true, ltb-false, ltb-true}
+use Rattle.std.proofs.lemmas.Bool.{and_cases, and_parts, le-leb, leb-false, leb-true, lt-leb, ltb-false, ltb-true, ne_eqb}
 use Rattle.std.specs.Option.{ok_or, option_or}
 use Rattle.refusal.specs.declared.Refusal.{Refusal}
-use Rattle.refusal.specs.declared.Refusal.TheVariants.{BadName, NoPack, NoSuchFile}
+use Rattle.refusal.specs.declared.Refusal.TheVariants.{BadName, NoPack, NoSuchFile, OutOfRange}
 use Rattle.blocks.specs.Devices.{Device, block_at, size_of}
 use Rattle.directory.specs.Entries.{entry_at, entry_or, entry_read}
 use Rattle.directory.specs.Judgements.{judged}
@@ -19,7 +19,7 @@ use Rattle.model.specs.declared.state.State.{State}
 use Rattle.model.proofs.Laying.{laid_on}
 use Rattle.model.proofs.Stages.{full}
 use Rattle.model.proofs.Reading.{found-file, known, numbered-in, numbered-out, read_none}
-use Rattle.unit.specs.Calls.{after, file_found, file_shown, named, numbered, read_as, some_file, with_pack}
+use Rattle.unit.specs.Calls.{after, file_found, file_shown, named, number, numbered, pack_asked, read_as, some_file, with_pack}
 
 -- the reply to a call about a file
 abbrev pub shown_reply : Result Found Refusal → List ℕ → Reply
@@ -134,3 +134,22 @@ module _ (st : State) (d : Device) (wide : (b : ℕ) → b < size_of d → lengt
     refused = λ _. refl;
     bytes = λ _. laid_on d wide (show_step (model_of st d) work entry buffer).model (ap (λ (m : Model). m.pack) (show-keeps st d rep.judged work buffer entry));
   })
+
+-- find and show, by how they are left
+module _ (st : State) (work : ℕ) (buffer : List ℕ) (next : ℕ → Pack → Result Found Refusal) where
+  pub no-work : (work ≡ 1024 → ⊥) → (r : Result ℕ Refusal) → r ≡ Err OutOfRange → number r buffer ≡ shown_reply (with_pack (pack_asked st work buffer) (next work)) buffer
+  no-work other r is =
+      ap (λ r. number r buffer) is
+      ∙ ap (λ t. shown_reply (with_pack (after (cond t None (Some OutOfRange)) (after (buffer_stage buffer) (ok_or st.pack NoPack))) (next work)) buffer) (sym (ne_eqb work 1024 other))
+
+  pub no-room : work ≡ 1024 → (26 ≤ length buffer → ⊥) → (r : Result ℕ Refusal) → r ≡ Err OutOfRange → number r buffer ≡ shown_reply (with_pack (pack_asked st work buffer) (next work)) buffer
+  no-room full short r is =
+      ap (λ r. number r buffer) is
+      ∙ ap (λ t. shown_reply (with_pack (after (work_stage 1024) (after (cond t None (Some OutOfRange)) (ok_or st.pack NoPack))) (next work)) buffer) (sym (lt-leb 26 (length buffer) (omega (arith, short))))
+      ∙ ap (λ n. shown_reply (with_pack (pack_asked st n buffer) (next work)) buffer) (sym full)
+
+  pub about : work ≡ 1024 → 26 ≤ length buffer → (r : Result Found Refusal) → r ≡ with_pack (ok_or st.pack NoPack) (next 1024) → r ≡ with_pack (pack_asked st work buffer) (next work)
+  about full room r is =
+      is
+      ∙ ap (λ t. with_pack (after (work_stage 1024) (after (cond t None (Some OutOfRange)) (ok_or st.pack NoPack))) (next 1024)) (sym (le-leb 26 (length buffer) room))
+      ∙ ap (λ n. with_pack (pack_asked st n buffer) (next n)) (sym full)

@@ -1,6 +1,6 @@
 -- Set date and take up change what the model's steps change. Assumes nothing.
-use Rattle.std.proofs.Common.{◌≡◌, ℕ, ◌<◌, true, false, [], length, is_err, Some, None, Ok, Err, Option, Result, sym, refl, ap, ◌∙◌, subst}
-use Rattle.std.proofs.lemmas.Bool.{cond-false, cond-true}
+use Rattle.std.proofs.Common.{◌≡◌, ℕ, cond, ◌<◌, true, false, [], length, is_err, Some, None, Ok, Err, Option, Result, sym, refl, ap, ◌∙◌, subst}
+use Rattle.std.proofs.lemmas.Bool.{cond-false, cond-true, ne_eqb}
 use Rattle.refusal.specs.declared.Refusal.{Refusal}
 use Rattle.refusal.specs.declared.Refusal.TheVariants.{OutOfRange}
 use Rattle.blocks.specs.Devices.{Device, block_at, size_of}
@@ -14,9 +14,8 @@ use Rattle.model.specs.Represents.{Decided, Turn, Turns}
 use Rattle.model.specs.Requests.{Reply, set_date, take_up}
 use Rattle.model.specs.Steps.{Step, done_step, dated_model, refused_step, set_date_step, take_up_step, taken_up, unless, work_stage}
 use Rattle.model.specs.declared.state.State.{State}
-use Rattle.unit.specs.Calls.{after, done, pack_taken, state_taken, state_unless}
+use Rattle.unit.specs.Calls.{done, pack_taken, state_taken, state_unless}
 use Rattle.model.proofs.Laying.{laid_on}
-use Rattle.model.proofs.Stages.{full}
 
 -- the step of a take up is what the code does
 module _ (st : State) (d : Device) (wide : (b : ℕ) → b < size_of d → length (block_at d b) ≡ 1024) (work : ℕ) where
@@ -82,30 +81,21 @@ module _ (st : State) (d : Device) (wide : (b : ℕ) → b < size_of d → lengt
     pub turn : Turns st d (take_up work) reply st' d
     pub state : st' ≡ state_taken st work (judged d 1024)
 
-  pub taken-up : (j : Result Pack Refusal) (reply : Reply) (st' : State) → ◌≡◌ {A = Result (Unit {0}) Refusal} (Ok tt) (after (work_stage work) (Ok tt)) → j ≡ judged d work → reply ≡ answered None j
+  pub taken-up : work ≡ 1024 → (j : Result Pack Refusal) (reply : Reply) (st' : State) → j ≡ judged d 1024 → reply ≡ answered None j
       → st' ≡ state_unless None st (pack_taken j) → TakenUp reply st'
-  taken-up j reply st' passed is told made =
-      let none = passes (work_stage work) passed in
-      let j-is : j ≡ judged d 1024 = is ∙ ap (judged d) (full work none) in
-      let reply-is = told ∙ ap (answered None) j-is ∙ ap (λ w. answered w (judged d 1024)) (sym none) in
-      let state-is = made ∙ ap (λ j. state_unless None st (pack_taken j)) j-is ∙ ap (λ w. state_unless w st (pack_taken (judged d 1024))) (sym none) in
+  taken-up full j reply st' is told made =
+      let none : work_stage work ≡ None = ap work_stage full in
+      let reply-is = told ∙ ap (answered None) is ∙ ap (λ w. answered w (judged d 1024)) (sym none) in
+      let state-is = made ∙ ap (λ j. state_unless None st (pack_taken j)) is ∙ ap (λ w. state_unless w st (pack_taken (judged d 1024))) (sym none) in
       record { decided = take-up-decided reply st' reply-is state-is; turn = take-up-turn reply st' reply-is state-is; state = state-is }
-    where
-      passes : (w : Option Refusal) → ◌≡◌ {A = Result (Unit {0}) Refusal} (Ok tt) (after w (Ok tt)) → w ≡ None
-      passes None h = refl
-      passes (Some refusal) h = cc
 
   -- the work block was wrong
-  pub not_taken : (refusal : Refusal) (reply : Reply) → ◌≡◌ {A = Result (Unit {0}) Refusal} (Err refusal) (after (work_stage work) (Ok tt)) → reply ≡ done (Err refusal) → TakenUp reply st
-  not_taken refusal reply stopped told =
-      let some = stops (work_stage work) stopped in
+  pub not_taken : (work ≡ 1024 → ⊥) → (reply : Reply) → reply ≡ done (Err OutOfRange) → TakenUp reply st
+  not_taken other reply told =
+      let some : work_stage work ≡ Some OutOfRange = ap (λ t. cond t None (Some OutOfRange)) (ne_eqb work 1024 other) in
       let reply-is = told ∙ ap (λ w. answered w (judged d 1024)) (sym some) in
       let state-is : st ≡ state_taken st work (judged d 1024) = ap (λ w. state_unless w st (pack_taken (judged d 1024))) (sym some) in
       record { decided = take-up-decided reply st reply-is state-is; turn = take-up-turn reply st reply-is state-is; state = state-is }
-    where
-      stops : (w : Option Refusal) → ◌≡◌ {A = Result (Unit {0}) Refusal} (Err refusal) (after w (Ok tt)) → w ≡ Some refusal
-      stops None h = cc
-      stops (Some own) h = cc
 
 -- set date
 pub dated-turn : (st : State) (d : Device) → ((b : ℕ) → b < size_of d → length (block_at d b) ≡ 1024) → (year month day : ℕ) (date : Date) → is_day year month day ≡ true

@@ -1,3 +1,4 @@
+pub mod Exits
 pub mod Asking
 pub mod Changing
 pub mod Building

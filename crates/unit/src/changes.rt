@@ -6,9 +6,8 @@ ghost use Rattle.model.specs.Requests.{set_date, take_up};
 ghost use Rattle.unit.specs.Calls.{done, state_taken};
 ghost use Rattle.directory.specs.Judgements.{judged};
 
-use crate::stages::check_work;
 use crate::units::PackUnit;
-use blocks::BlockDevice;
+use blocks::{BLOCK, BlockDevice};
 use directory::judge;
 use entry::Date;
 use model::OpenTable;
@@ -34,7 +33,7 @@ impl<D: BlockDevice> PackUnit<D> {
         ensures device { self.new.device ≡ self.old.device }
         ensures work { WorkBlock work.old work.new }
     {
-        check_work(work)?;
+        let work = work.as_mut_array::<BLOCK>().ok_or(Refusal::OutOfRange)?;
         self.state.table = OpenTable::free();
         self.state.pack = None;
         let pack = judge(&self.device, work)?;

@@ -6,7 +6,6 @@ mod fresh;
 mod initialising;
 mod questions;
 mod shape;
-mod stages;
 mod units;
 
 pub use units::PackUnit;

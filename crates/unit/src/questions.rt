@@ -1,18 +1,18 @@
 // Find and show: they change neither the unit nor the device.
 ghost use Rattle.std.specs.Prelude.{◌≡◌, ◌≤◌, ◌++◌, length, drop, Err, if◌then◌else◌};
-ghost use Rattle.refusal.specs.declared.Refusal.TheVariants.{BadName};
+ghost use Rattle.refusal.specs.declared.Refusal.TheVariants.{BadName, NoPack};
+ghost use Rattle.std.specs.Option.{ok_or};
 ghost use Rattle.entry.specs.Fields.{name_of};
 ghost use Rattle.directory.specs.Entries.{WorkBlock};
 ghost use Rattle.directory.specs.Lookups.{lookup_reply};
 ghost use Rattle.model.specs.Represents.{Turns};
 ghost use Rattle.model.specs.Requests.{find as find_asked, show as show_asked};
-ghost use Rattle.unit.specs.Calls.{file_found, file_shown, named, number, pack_asked};
+ghost use Rattle.unit.specs.Calls.{named, number, numbered, some_file, with_pack};
 
-use crate::stages::{check_buffer, check_work, pack_up};
 use crate::units::PackUnit;
 use blocks::BlockDevice;
 use directory::{Found, Pack, lookup, read_entry};
-use entry::ENTRY;
+use entry::{BLOCK, ENTRY};
 use model::NameKind;
 use names::{FileRule, Name, StemRule, WholeRule};
 use refusal::Refusal;
@@ -46,45 +46,25 @@ fn find_named<D: BlockDevice>(
     }
 }
 
-// Puts a file's entry into the front of a buffer, and gives its number.
-fn put_front(buffer: &mut [u8], file: &Found) -> u32
-    requires { 26 ≤ length buffer.old }
-    ensures number { result ≡ file.now.number }
-    ensures front { buffer.new ≡ file.now.entry.bytes ++ drop 26 buffer.old }
-{
-    buffer[0..ENTRY].copy_from_slice(&file.entry.bytes);
-    file.number
-}
-
 impl<D: BlockDevice> PackUnit<D> {
-    // The pack that a question is about, or what refuses every question.
-    fn asked(&self, buffer: &[u8], work: &[u8]) -> Result<Pack, Refusal>
-        ensures { result ≡ pack_asked self.now.state (length work.now) buffer.now }
-    {
-        check_work(work)?;
-        check_buffer(buffer)?;
-        pack_up(&self.state)
-    }
-
     // The file that find is about, or why there is none.
     fn find_file(
         &self,
         kind: NameKind,
         name: &[u8],
-        buffer: &[u8],
-        work: &mut [u8],
+        work: &mut [u8; BLOCK],
     ) -> Result<Found, Refusal>
-        ensures { result ≡ file_found self.now.state (D.BlockDevice.meaning self.now.device) (length work.old) kind name.now buffer.now }
+        ensures { result ≡ with_pack (ok_or self.now.state.pack NoPack) (λ pack. some_file (named (D.BlockDevice.meaning self.now.device) kind name.now 1024 pack)) }
     {
-        let pack = self.asked(buffer, work)?;
+        let pack = self.state.pack.ok_or(Refusal::NoPack)?;
         find_named(&self.device, pack, kind, name, work)?.ok_or(Refusal::NoSuchFile)
     }
 
     // The file that show is about, or why there is none.
-    fn show_file(&self, entry: u32, buffer: &[u8], work: &mut [u8]) -> Result<Found, Refusal>
-        ensures { result ≡ file_shown self.now.state (D.BlockDevice.meaning self.now.device) (length work.old) entry buffer.now }
+    fn show_file(&self, entry: u32, work: &mut [u8; BLOCK]) -> Result<Found, Refusal>
+        ensures { result ≡ with_pack (ok_or self.now.state.pack NoPack) (numbered (D.BlockDevice.meaning self.now.device) entry 1024) }
     {
-        let pack = self.asked(buffer, work)?;
+        let pack = self.state.pack.ok_or(Refusal::NoPack)?;
         if entry < 3 || entry >= pack.left {
             return Err(Refusal::NoSuchFile);
         }
@@ -106,8 +86,13 @@ impl<D: BlockDevice> PackUnit<D> {
         ensures turn { Turns self.now.state (D.BlockDevice.meaning self.now.device) (find_asked (length work.old) kind name.now buffer.old) (number result buffer.new) self.now.state (D.BlockDevice.meaning self.now.device) }
         ensures work { WorkBlock work.old work.new }
     {
-        let file = self.find_file(kind, name, buffer, work)?;
-        Ok(put_front(buffer, &file))
+        let work = work.as_mut_array::<BLOCK>().ok_or(Refusal::OutOfRange)?;
+        let front = buffer
+            .first_chunk_mut::<ENTRY>()
+            .ok_or(Refusal::OutOfRange)?;
+        let file = self.find_file(kind, name, work)?;
+        front.copy_from_slice(&file.entry.bytes);
+        Ok(file.number)
     }
 
     // Shows a file, live or deleted, by the number of its entry, as find does.
@@ -115,7 +100,12 @@ impl<D: BlockDevice> PackUnit<D> {
         ensures turn { Turns self.now.state (D.BlockDevice.meaning self.now.device) (show_asked (length work.old) entry buffer.old) (number result buffer.new) self.now.state (D.BlockDevice.meaning self.now.device) }
         ensures work { WorkBlock work.old work.new }
     {
-        let file = self.show_file(entry, buffer, work)?;
-        Ok(put_front(buffer, &file))
+        let work = work.as_mut_array::<BLOCK>().ok_or(Refusal::OutOfRange)?;
+        let front = buffer
+            .first_chunk_mut::<ENTRY>()
+            .ok_or(Refusal::OutOfRange)?;
+        let file = self.show_file(entry, work)?;
+        front.copy_from_slice(&file.entry.bytes);
+        Ok(file.number)
     }
 }
