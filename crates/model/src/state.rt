@@ -9,14 +9,14 @@ use entry::Date;
 pub const OPEN_FILES: usize = 2;
 
 // Whether a name is looked for as a whole name or as a stem.
-#[derive(Clone, Copy)]
+#[derive(Clone, Copy, PartialEq, Eq, Debug)]
 pub enum NameKind {
     Whole,
     Stem,
 }
 
 // What an open file may be asked: to be read, to be written from empty, or both.
-#[derive(Clone, Copy)]
+#[derive(Clone, Copy, PartialEq, Eq, Debug)]
 pub enum Mode {
     Read,
     Write,
@@ -24,7 +24,7 @@ pub enum Mode {
 }
 
 // An open file: its entry, its mode, and the byte that is next.
-#[derive(Clone, Copy)]
+#[derive(Clone, Copy, PartialEq, Eq, Debug)]
 pub struct OpenFile {
     pub entry: u32,
     pub mode: Mode,
@@ -32,7 +32,7 @@ pub struct OpenFile {
 }
 
 // The open files by their numbers.
-#[derive(Clone, Copy, Default)]
+#[derive(Clone, Copy, PartialEq, Eq, Debug, Default)]
 pub struct OpenTable {
     pub records: [Option<OpenFile>; OPEN_FILES],
 }
@@ -47,7 +47,7 @@ impl OpenTable {
 }
 
 // The pack that is up, the date that is set, and the open files.
-#[derive(Clone, Copy, Default)]
+#[derive(Clone, Copy, PartialEq, Eq, Debug, Default)]
 pub struct State {
     pub pack: Option<Pack>,
     pub date: Option<Date>,

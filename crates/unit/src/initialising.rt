@@ -1,14 +1,10 @@
 // Initialise: makes a fresh pack on the device, and takes it up.
-ghost use Rattle.std.specs.Prelude.{◌≡◌, ◌-◌, ◌<◌, ◌≤◌, length, replicate, Some, None, Ok, MatchResult};
-ghost use Rattle.blocks.specs.Devices.{Device, size_of, write_fault, written};
+ghost use Rattle.std.specs.Prelude.{◌≡◌, ◌-◌, ◌<◌, length, Some, None, Ok, MatchResult};
+ghost use Rattle.blocks.specs.Devices.{size_of, write_fault, written};
 ghost use Rattle.directory.specs.Entries.{WorkBlock};
-ghost use Rattle.model.specs.Fresh.{initialised, zeroed};
-ghost use Rattle.model.specs.Models.{model_of, stamp_of_date};
 ghost use Rattle.model.specs.Represents.{Decided, Turns};
 ghost use Rattle.model.specs.Requests.{initialise as initialise_asked};
-ghost use Rattle.model.specs.Steps.{bad_stage, first_bad, initialise_refusal, shape_stage, tab_stage};
-ghost use Rattle.names.specs.Names.{name_field};
-ghost use Rattle.std.specs.Option.{option_map};
+ghost use Rattle.model.specs.Steps.{bad_stage, shape_stage};
 ghost use Rattle.unit.specs.Calls.{Admitted, Initialised, Writable, after, cleared, done, refusal_on};
 
 use crate::fresh::fill_first;
@@ -19,12 +15,11 @@ use model::OpenTable;
 use names::VolumeName;
 use refusal::Refusal;
 
-// The directory has 1 to 127 blocks, and the pack at least one more than that and no more than the device. Comparisons
-// and not ranges: one that begins at `directory + 1` is there only once the directory was tested.
+// The directory has 1 to 127 blocks, and the pack at least one more than that and no more than the device.
 fn check_shape(size: u32, directory: u32, blocks: u32) -> Result<(), Refusal>
     ensures { result ≡ after (shape_stage size directory blocks) (Ok tt) }
 {
-    if directory < 1 || directory > 127 || blocks <= directory || blocks > size {
+    if !(1..=127).contains(&directory) || !(directory + 1..=size).contains(&blocks) {
         return Err(Refusal::OutOfRange);
     }
     Ok(())

@@ -1,5 +1,5 @@
 // Find and show: they change neither the unit nor the device.
-ghost use Rattle.std.specs.Prelude.{◌≡◌, ◌≤◌, ◌++◌, length, drop, Err, if◌then◌else◌};
+ghost use Rattle.std.specs.Prelude.{◌≡◌, length, Err, if◌then◌else◌};
 ghost use Rattle.refusal.specs.declared.Refusal.TheVariants.{BadName, NoPack};
 ghost use Rattle.std.specs.Option.{ok_or};
 ghost use Rattle.entry.specs.Fields.{name_of};

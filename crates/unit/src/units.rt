@@ -6,8 +6,11 @@ ghost use Rattle.model.specs.Represents.{Represents};
 use blocks::BlockDevice;
 use model::State;
 
-// What the unit knows, and the device that it asks. Contracts name the two side by side, and no view of both: it would
-// hide that a call leaves the device itself as it was.
+// What the unit knows, and the device that it asks. No Model: a view of the state and the device's meaning could not say
+// that a call leaves the device itself as it was, with what its meaning leaves out; a view that holds the device is these
+// fields again.
+// Calls take a work block as a slice, and test its length: a wrong one is a refusal, which an array would ask of callers.
+// So their contracts say that it keeps its length (WorkBlock), which a caller of a public function knows from nothing else.
 #[derive(Drop)]
 pub struct PackUnit<D> {
     pub(crate) state: State,
