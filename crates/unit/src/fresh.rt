@@ -31,67 +31,76 @@ fn entry_of(name: &[u8; FIELD], attributes: Attributes, date: Option<Date>) -> E
     entry
 }
 
-// The volume's entry: its name, its directory blocks, the check bytes, and its blocks.
-fn volume_entry(shape: &Shape, date: Option<Date>) -> Entry
-    ensures { result.bytes ≡ volume_entry shape.now.name.field shape.now.directory shape.now.blocks (option_map stamp_of_date date) }
-{
-    let attributes = Attributes {
-        byte: 128 + shape.directory,
-    };
-    let mut entry = entry_of(&shape.name.field(), attributes, date);
-    entry.set_check_bytes();
-    entry.set_size(u32::from(shape.blocks));
-    entry
+// What a fresh pack is made of: its shape, and the date of its entries.
+#[derive(Clone, Copy)]
+pub(crate) struct Fresh {
+    pub(crate) shape: Shape,
+    pub(crate) date: Option<Date>,
 }
 
-// The entry of the boot block, block 0.
-fn boot_entry(date: Option<Date>) -> Entry
-    ensures { result.bytes ≡ boot_entry (option_map stamp_of_date date) }
-{
-    let attributes = Attributes::NONE
-        .with(Attribute::Locked)
-        .with(Attribute::System);
-    let mut entry = entry_of(&field_of(BOOT), attributes, date);
-    entry.set_room(1);
-    entry.set_used(1);
-    entry.set_last(FULL);
-    entry
-}
+impl Fresh {
+    // The volume's entry: its name, its directory blocks, the check bytes, and its blocks.
+    fn volume_entry(&self) -> Entry
+        ensures { result.bytes ≡ volume_entry self.now.shape.name.field self.now.shape.directory self.now.shape.blocks (option_map stamp_of_date self.now.date) }
+    {
+        let attributes = Attributes {
+            byte: 128 + self.shape.directory,
+        };
+        let mut entry = entry_of(&self.shape.name.field(), attributes, self.date);
+        entry.set_check_bytes();
+        entry.set_size(u32::from(self.shape.blocks));
+        entry
+    }
 
-// The entry of the directory, from block 1 on.
-fn directory_entry(shape: &Shape, date: Option<Date>) -> Entry
-    ensures { result.bytes ≡ directory_entry shape.now.directory (option_map stamp_of_date date) }
-{
-    let attributes = Attributes::NONE
-        .with(Attribute::Locked)
-        .with(Attribute::WriteProtected)
-        .with(Attribute::System);
-    let mut entry = entry_of(&field_of(DIRECTORY), attributes, date);
-    entry.set_first_block(1);
-    entry.set_room(u16::from(shape.directory));
-    entry.set_used(u16::from(shape.directory));
-    entry.set_last(FULL);
-    entry
-}
+    // The entry of the boot block, block 0.
+    fn boot_entry(&self) -> Entry
+        ensures { result.bytes ≡ boot_entry (option_map stamp_of_date self.now.date) }
+    {
+        let attributes = Attributes::NONE
+            .with(Attribute::Locked)
+            .with(Attribute::System);
+        let mut entry = entry_of(&field_of(BOOT), attributes, self.date);
+        entry.set_room(1);
+        entry.set_used(1);
+        entry.set_last(FULL);
+        entry
+    }
 
-// The entry of the blocks that are left: all behind the directory.
-fn left_entry(shape: &Shape, date: Option<Date>) -> Entry
-    ensures { result.bytes ≡ left_entry shape.now.directory shape.now.blocks (option_map stamp_of_date date) }
-{
-    let attributes = Attributes::NONE.with(Attribute::BlocksLeft);
-    let mut entry = entry_of(&field_of(BLOCKS_LEFT), attributes, date);
-    entry.set_first_block(1 + u32::from(shape.directory));
-    entry.set_room(shape.left());
-    entry
-}
+    // The entry of the directory, from block 1 on.
+    fn directory_entry(&self) -> Entry
+        ensures { result.bytes ≡ directory_entry self.now.shape.directory (option_map stamp_of_date self.now.date) }
+    {
+        let attributes = Attributes::NONE
+            .with(Attribute::Locked)
+            .with(Attribute::WriteProtected)
+            .with(Attribute::System);
+        let mut entry = entry_of(&field_of(DIRECTORY), attributes, self.date);
+        entry.set_first_block(1);
+        entry.set_room(u16::from(self.shape.directory));
+        entry.set_used(u16::from(self.shape.directory));
+        entry.set_last(FULL);
+        entry
+    }
 
-// Makes the work block the first block of a fresh pack's directory: its four entries, then zeros.
-pub(crate) fn fill_first(work: &mut [u8; BLOCK], shape: &Shape, date: Option<Date>)
-    ensures { work.new ≡ first_block shape.now.name.field shape.now.directory shape.now.blocks (option_map stamp_of_date date) }
-{
-    work.fill(0);
-    volume_entry(shape, date).put_in(work, 0);
-    boot_entry(date).put_in(work, 1);
-    directory_entry(shape, date).put_in(work, 2);
-    left_entry(shape, date).put_in(work, 3);
+    // The entry of the blocks that are left: all behind the directory.
+    fn left_entry(&self) -> Entry
+        ensures { result.bytes ≡ left_entry self.now.shape.directory self.now.shape.blocks (option_map stamp_of_date self.now.date) }
+    {
+        let attributes = Attributes::NONE.with(Attribute::BlocksLeft);
+        let mut entry = entry_of(&field_of(BLOCKS_LEFT), attributes, self.date);
+        entry.set_first_block(1 + u32::from(self.shape.directory));
+        entry.set_room(self.shape.left());
+        entry
+    }
+
+    // Makes the work block the first block of the pack's directory: its four entries, then zeros.
+    pub(crate) fn fill_first(&self, work: &mut [u8; BLOCK])
+        ensures { work.new ≡ first_block self.now.shape.name.field self.now.shape.directory self.now.shape.blocks (option_map stamp_of_date self.now.date) }
+    {
+        work.fill(0);
+        self.volume_entry().put_in(work, 0);
+        self.boot_entry().put_in(work, 1);
+        self.directory_entry().put_in(work, 2);
+        self.left_entry().put_in(work, 3);
+    }
 }

@@ -7,7 +7,7 @@ ghost use Rattle.model.specs.Requests.{initialise as initialise_asked};
 ghost use Rattle.model.specs.Steps.{bad_stage, shape_stage};
 ghost use Rattle.unit.specs.Calls.{Admitted, Initialised, Writable, after, cleared, done, refusal_on};
 
-use crate::fresh::fill_first;
+use crate::fresh::Fresh;
 use crate::shape::Shape;
 use crate::units::PackUnit;
 use blocks::{BLOCK, BlockDevice};
@@ -99,7 +99,8 @@ impl<D: BlockDevice> PackUnit<D> {
         let work = work.as_mut_array::<BLOCK>().ok_or(Refusal::OutOfRange)?;
         let shape = admit(&self.device, name, directory, blocks, work)?;
         zero_blocks(&mut self.device, shape.directory, work);
-        fill_first(work, &shape, self.state.date);
+        let date = self.state.date;
+        Fresh { shape, date }.fill_first(work);
         write_block(&mut self.device, 1, work);
         self.state.table = OpenTable::free();
         self.state.pack = Some(shape.pack());

@@ -5,12 +5,12 @@ use Rattle.model.specs.Fresh.{boot_entry, directory_entry, left_entry, volume_en
 use Rattle.model.specs.Models.{stamp_of_date}
 use Rattle.model.proofs.Fields.{boot-long, directory-long, left-long, volume-long}
 use Rattle.unit.proofs.Building.{four}
-use Rattle.unit.proofs.fresh.fill_first.Goals as goal
+use Rattle.unit.proofs.fresh.Fresh.fill_first.Goals as goal
 
 pub returns : goal.returns
 returns c =
-    let date = option_map stamp_of_date c.args.date in
-    let shape = c.args.shape.now in
+    let date = option_map stamp_of_date c.args.self.now.date in
+    let shape = c.args.self.now.shape in
     let name = shape.name.field in
     four (volume_entry name shape.directory shape.blocks date) (boot_entry date) (directory_entry shape.directory date) (left_entry shape.directory shape.blocks date)
     (volume-long name shape.directory shape.blocks date shape.name.kept) (boot-long date) (directory-long shape.directory date) (left-long shape.directory shape.blocks date)
