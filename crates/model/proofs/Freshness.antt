@@ -2,10 +2,8 @@
 use Rattle.std.proofs.Common.{◌≡◌, ℕ, zero, suc, ◌+◌, ◌-◌, ◌<◌, ◌≤◌, true, cond, eqb, ltb, ◌⊎◌, List, [], length, get_or, take, set, replicate, Some, None, Ok, Option, Result, sym, refl, ap, ◌∙◌, subst, inl, inr, arith}
 use Rattle.std.proofs.lemmas.List.{get_or-set_other, get_or-set_same, length-set, take_at}
 use Rattle.std.proofs.lemmas.Bool.{and_from, cases_eq, cases_lt, lt-ltb}
-use Rattle.std.specs.Option.{option_or}
 use Rattle.refusal.specs.declared.Refusal.{Refusal}
 use Rattle.blocks.specs.Devices.{Device, block_at, mark_at, mark_fault, read_fault, size_of}
-use Rattle.blocks.specs.declared.faults.Fault.{Fault}
 use Rattle.blocks.specs.declared.faults.Fault.TheVariants.{OutOfRange}
 use Rattle.names.specs.Names.{is_volume}
 use Rattle.entry.specs.Fields.{check_of, directory_of, entry_in, first_of, room_of, size_of as volume_size}
@@ -21,6 +19,7 @@ use Rattle.model.specs.Models.{PackModel, pack_found, pack_on, pack_read}
 use Rattle.model.specs.Runs.{Accounts}
 use Rattle.model.specs.Steps.{first_bad}
 use Rattle.model.proofs.Accounting.{accounts}
+use Rattle.model.proofs.Stages.{neither}
 use Rattle.model.proofs.Fields.{boot-first, boot-long, boot-room, directory-first, directory-long, directory-room, left-first, left-long, left-marked, left-room, past, volume-check, volume-directory, volume-long, volume-size}
 
 pub zeroed-long : (n : ℕ) (blocks : List (List ℕ)) (b : ℕ) → length (zeroed blocks b n) ≡ length blocks
@@ -31,13 +30,9 @@ zeroed-long (suc n) blocks b = zeroed-long n (set blocks b (replicate 1024 0)) (
 pub sound-read : (d : Device) (n b : ℕ) → first_bad d.marks b n ≡ None → b + n ≤ size_of d → (k : ℕ) → b ≤ k → k < b + n → read_fault d k 1024 ≡ None
 sound-read d zero b h fits k low high = absurd (omega arith)
 sound-read d (suc n) b h fits k low high =
-    let both = split (mark_fault (mark_at d b)) (first_bad d.marks (b + 1) n) h in
+    let both = neither (mark_fault (mark_at d b)) (first_bad d.marks (b + 1) n) h in
     by (cases_eq k b) both.0 (λ l. sound-read d n (b + 1) both.1 (omega arith) k l (omega arith))
   where
-    split : (o p : Option Fault) → option_or o p ≡ None → (o ≡ None) × (p ≡ None)
-    split None p h = (refl, h)
-    split (Some f) p h = cc
-
     by : (k ≡ b) ⊎ (k ≡ b → ⊥) → mark_fault (mark_at d b) ≡ None → (b + 1 ≤ k → read_fault d k 1024 ≡ None) → read_fault d k 1024 ≡ None
     by (inl q) here later =
         ap (λ j. read_fault d j 1024) q

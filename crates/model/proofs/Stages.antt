@@ -31,7 +31,8 @@ pub record Facts (d : Device) (work : ℕ) (name : List ℕ) (directory blocks :
   pub off : d.tab ≡ Off
   pub sound : first_bad d.marks 1 directory ≡ None
 
-neither : (o p : Option Refusal) → option_or o p ≡ None → (o ≡ None) × (p ≡ None)
+-- neither of two stages refuses where the first that does is none
+pub neither : {X : Type 0} (o p : Option X) → option_or o p ≡ None → (o ≡ None) × (p ≡ None)
 neither None p h = (refl, h)
 neither (Some x) p h = cc
 
