@@ -14,11 +14,11 @@ use Rattle.directory.specs.Entries.{entry_at, entry_fault, entry_or, entry_read,
 
 granted : (o : Option Fault) (done : Unit {0}) → Ok done ≡ outcome o → o ≡ None
 granted None done h = refl
-granted (Some f) done h = absurd (let z : ◌≡◌ {A = ℕ} 0 1 = cc in omega arith)
+granted (Some f) done h = absurd cc
 
 -- why a device refused
 pub refused : (o : Option Fault) (fault : Fault) → ◌≡◌ {A = Result (Unit {0}) Fault} (Err fault) (outcome o) → o ≡ Some fault
-refused None fault h = absurd (let z : ◌≡◌ {A = ℕ} 0 1 = cc in omega arith)
+refused None fault h = absurd cc
 refused (Some f) fault h = let same : fault ≡ f = cc in ap Some (sym same)
 
 -- the way out where a device's refusal is passed on
@@ -39,7 +39,7 @@ in-range d b len none = go (in_range d b len) refl
     go true h = let both = and_parts (ltb b (size_of d)) (eqb len 1024) h in (ltb-true b (size_of d) both.0, eqb-true len 1024 both.1)
     go false h =
         let never : Some (OutOfRange b) ≡ None = sym (ap (λ t. cond t (mark_fault (mark_at d b)) (Some (OutOfRange b))) h) ∙ none in
-        absurd (let z : ◌≡◌ {A = ℕ} 0 1 = cc in omega arith)
+        absurd cc
 
 -- nothing is read through a work block of another length
 pub no-block : (d : Device) (b len : ℕ) → (len ≡ 1024 → ⊥) → read_fault d b len ≡ Some (OutOfRange b)

@@ -15,10 +15,6 @@ use Rattle.directory.proofs.Firsts.{IsFirst, first-here, first-is, first_on}
 abbrev pub Ahead : (List ℕ → Bool) → Device → ℕ → ℕ → ℕ → Type 0
 Ahead fits d directory len e = first_that (ends_at fits d len) e (39 * directory - e) ≡ first_that (ends_at fits d len) 3 (39 * directory - 3)
 
-none_is : {A : Type 0} (o : Option A) → is_some o ≡ false → o ≡ None
-none_is None h = refl
-none_is (Some x) h = absurd (true≢false h)
-
 abbrev number_of : Result (Option Found) Refusal → ℕ
 number_of (Ok (Some f)) = f.number
 number_of (Ok None) = 0
@@ -28,27 +24,27 @@ number_of (Err refusal) = 0
 module _ (fits : List ℕ → Bool) (d : Device) (directory len : ℕ) (reply : Result (Option Found) Refusal) where
   law-none : reply ≡ Ok None → ((e : ℕ) → Match fits d directory e → ⊥) → LookupLaw fits d directory len reply
   law-none is no-match = record {
-    found = λ f h. absurd (let same : Ok None ≡ Ok (Some f) = sym is ∙ h in let z : ◌≡◌ {A = ℕ} 0 1 = cc in omega arith);
+    found = λ f h. absurd (let same : Ok None ≡ Ok (Some f) = sym is ∙ h in cc);
     first = λ all e m. absurd (no-match e m.match);
     none = λ h. no-match;
     only = λ all h. is;
-    refused = λ refusal h. absurd (let same : Ok None ≡ Err refusal = sym is ∙ h in let z : ◌≡◌ {A = ℕ} 0 1 = cc in omega arith);
+    refused = λ refusal h. absurd (let same : Ok None ≡ Err refusal = sym is ∙ h in cc);
   }
 
   law-found : (e : ℕ) → reply ≡ Ok (Some (found_at d e)) → FirstMatch fits d directory e → LookupLaw fits d directory len reply
   law-found e is m = record {
     found = λ f h. subst (FirstMatch fits d directory) (ap number_of (sym is ∙ h)) m;
     first = λ all f n. is ∙ ap (λ k. Ok (Some (found_at d k))) (omega (arith, m.least f n.match, n.least e m.match));
-    none = λ h. absurd (let same : Ok None ≡ Ok (Some (found_at d e)) = sym h ∙ is in let z : ◌≡◌ {A = ℕ} 0 1 = cc in omega arith);
+    none = λ h. absurd (let same : Ok None ≡ Ok (Some (found_at d e)) = sym h ∙ is in cc);
     only = λ all h. absurd (h e m.match);
-    refused = λ refusal h. absurd (let same : Ok (Some (found_at d e)) ≡ Err refusal = sym is ∙ h in let z : ◌≡◌ {A = ℕ} 0 1 = cc in omega arith);
+    refused = λ refusal h. absurd (let same : Ok (Some (found_at d e)) ≡ Err refusal = sym is ∙ h in cc);
   }
 
   law-refused : (refusal : Refusal) → reply ≡ Err refusal → Unread fits d directory len refusal → (Readable d directory len → ⊥) → LookupLaw fits d directory len reply
   law-refused refusal is unread bad = record {
-    found = λ f h. absurd (let same : Ok (Some f) ≡ Err refusal = sym h ∙ is in let z : ◌≡◌ {A = ℕ} 0 1 = cc in omega arith);
+    found = λ f h. absurd (let same : Ok (Some f) ≡ Err refusal = sym h ∙ is in cc);
     first = λ all. absurd (bad all);
-    none = λ h. absurd (let same : Ok None ≡ Err refusal = sym h ∙ is in let z : ◌≡◌ {A = ℕ} 0 1 = cc in omega arith);
+    none = λ h. absurd (let same : Ok None ≡ Err refusal = sym h ∙ is in cc);
     only = λ all. absurd (bad all);
     refused = λ other h. subst (Unread fits d directory len) (let same : Err refusal ≡ Err other = sym is ∙ h in let z : refusal ≡ other = cc in z) unread;
   }
@@ -104,7 +100,7 @@ module _ (fits : List ℕ → Bool) (d : Device) (directory len : ℕ) where
     at_entry (Some fault) t met left =
         law-refused fits d directory len _ (refusal_of fault) (ap (said_at d e) met)
         (record { entry = e; fault = fault; met = met; told = refl; nothing = not-before e h.3 })
-        (λ all. absurd (let same : Some fault ≡ None = sym met ∙ all (holder_of e) (omega arith) (omega (arith, h.0, h.1)) in let z : ◌≡◌ {A = ℕ} 0 1 = cc in omega arith))
+        (λ all. absurd (let same : Some fault ≡ None = sym met ∙ all (holder_of e) (omega arith) (omega (arith, h.0, h.1)) in cc))
 
   at-end : (o : Option ℕ) → IsFirst (ends_at fits d len) 3 (39 * directory - 3) o → LookupLaw fits d directory len (said d len o)
   at-end None h =

@@ -45,7 +45,7 @@ begins d s blocks directory left fault end = record {
   left = subst (IsFirst (is_left_at d) 3 0) (sym left) (λ f low high. absurd (omega arith));
   fault = subst (IsFirst (is_broken d) 3 (reach 3 s.left - 3)) (sym fault) (λ f low high. absurd (let z : reach 3 s.left ≡ 3 = ap (reach 3) left in omega (arith, z)));
   end = λ _. end;
-  room = λ l h. absurd (let same : None ≡ Some l = sym left ∙ h in let z : ◌≡◌ {A = ℕ} 0 1 = cc in omega arith);
+  room = λ l h. absurd (let same : None ≡ Some l = sym left ∙ h in cc);
 }
 
 module _ (d : Device) (e : ℕ) (low : 3 ≤ e) (s : Seen) (h : SoFar d e s) where
@@ -58,7 +58,7 @@ module _ (d : Device) (e : ℕ) (low : 3 ≤ e) (s : Seen) (h : SoFar d e s) whe
         directory = h.directory;
         left = subst (IsFirst (is_left_at d) 3 (e + 1 - 3)) (sym q) (first.0, omega (arith, first.1), first.2, first.3);
         fault = subst (λ n. IsFirst (is_broken d) 3 (n - 3) s.fault) (ap (reach e) q ∙ sym (ap (reach (e + 1)) q)) h.fault;
-        end = λ r. absurd (let same : None ≡ Some l = sym r ∙ q in let z : ◌≡◌ {A = ℕ} 0 1 = cc in omega arith);
+        end = λ r. absurd (let same : None ≡ Some l = sym r ∙ q in cc);
         room = h.room;
       }
 
@@ -90,7 +90,7 @@ module _ (d : Device) (e : ℕ) (low : 3 ≤ e) (s : Seen) (h : SoFar d e s) whe
 
     room_next : (t : Bool) (l : ℕ) → cond t (Some e) None ≡ Some l → l ≡ e
     room_next true l q = let z : l ≡ e = cc in z
-    room_next false l q = absurd (let z : ◌≡◌ {A = ℕ} 0 1 = cc in omega arith)
+    room_next false l q = absurd cc
 
     seen_next : SoFar d (e + 1) (record {
       counts = s.counts;

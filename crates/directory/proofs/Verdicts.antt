@@ -18,7 +18,7 @@ use Rattle.directory.proofs.Testing.{volume-follows}
 -- blocks that can all be read
 or-none : {A : Type 0} (o p : Option A) → option_or o p ≡ None → (o ≡ None) × (p ≡ None)
 or-none None p h = (refl, h)
-or-none (Some x) p h = absurd (let z : ◌≡◌ {A = ℕ} 0 1 = cc in omega arith)
+or-none (Some x) p h = absurd cc
 
 read_all : (d : Device) (n b : ℕ) → first_unread d b n ≡ None → (k : ℕ) → b ≤ k → k < b + n → read_fault d k 1024 ≡ None
 read_all d zero b h k low high = absurd (omega arith)
@@ -37,9 +37,9 @@ all_read d (suc n) b h =
 
 -- a device's refusal is none of the layout
 not-layout : (fault : Fault) (e : ℕ) → refusal_of fault ≡ BrokenLayout e → ⊥
-not-layout (FaultRange place) e h = let z : ◌≡◌ {A = ℕ} 0 1 = cc in omega arith
-not-layout (WriteProtected depth) e h = let z : ◌≡◌ {A = ℕ} 0 1 = cc in omega arith
-not-layout (BadBlock depth place) e h = let z : ◌≡◌ {A = ℕ} 0 1 = cc in omega arith
+not-layout (FaultRange place) e h = cc
+not-layout (WriteProtected depth) e h = cc
+not-layout (BadBlock depth place) e h = cc
 
 volume-fault : (d : Device) → volume_holds (size_of d) (entry_at d 0) ≡ false → layout_fault d ≡ Some 0
 volume-fault d h = ap (λ t. option_or (cond (not t) (Some 0) (first_that (is_broken d) 1 2)) (files_fault d (blocks_left_at d))) h
@@ -49,15 +49,15 @@ module _ (d : Device) (len : ℕ) (reply : Result Pack Refusal) where
   law-refused : (refusal : Refusal) → reply ≡ Err refusal → ((e : ℕ) → refusal ≡ BrokenLayout e → ⊥) → (len ≡ 1024 → Readable d (directory_blocks d) 1024 → Follows d → ⊥)
       → JudgementLaw d len reply
   law-refused refusal is other bad = record {
-    granted = λ pack h. absurd (let same : Ok pack ≡ Err refusal = sym h ∙ is in let z : ◌≡◌ {A = ℕ} 0 1 = cc in omega arith);
+    granted = λ pack h. absurd (let same : Ok pack ≡ Err refusal = sym h ∙ is in cc);
     grants = λ full all f. absurd (bad full all f);
     broken = λ e h. absurd (other e (let same : Err refusal ≡ Err (BrokenLayout e) = sym is ∙ h in let z : refusal ≡ BrokenLayout e = cc in z));
   }
 
   law-broken : (e : ℕ) → reply ≡ Err (BrokenLayout e) → layout_fault d ≡ Some e → JudgementLaw d len reply
   law-broken e is at = record {
-    granted = λ pack h. absurd (let same : Ok pack ≡ Err (BrokenLayout e) = sym h ∙ is in let z : ◌≡◌ {A = ℕ} 0 1 = cc in omega arith);
-    grants = λ full all f. absurd (let same : Some e ≡ None = sym at ∙ (layout-law d).follows f in let z : ◌≡◌ {A = ℕ} 0 1 = cc in omega arith);
+    granted = λ pack h. absurd (let same : Ok pack ≡ Err (BrokenLayout e) = sym h ∙ is in cc);
+    grants = λ full all f. absurd (let same : Some e ≡ None = sym at ∙ (layout-law d).follows f in cc);
     broken = λ g h. at ∙ ap Some (let same : Err (BrokenLayout e) ≡ Err (BrokenLayout g) = sym is ∙ h in let z : e ≡ g = cc in z);
   }
 
@@ -74,7 +74,7 @@ module _ (d : Device) (len : ℕ) (reply : Result Pack Refusal) where
           learnt = (let same : Ok pack ≡ Ok (pack_of d (unwrap_or (blocks_left_at d) 0)) = sym h ∙ is in let z : pack ≡ pack_of d (unwrap_or (blocks_left_at d) 0) = cc in z) ∙ learnt f;
         };
     grants = λ full all f. is ∙ ap Ok (learnt f);
-    broken = λ e h. absurd (let same : Ok (pack_of d (unwrap_or (blocks_left_at d) 0)) ≡ Err (BrokenLayout e) = sym is ∙ h in let z : ◌≡◌ {A = ℕ} 0 1 = cc in omega arith);
+    broken = λ e h. absurd (let same : Ok (pack_of d (unwrap_or (blocks_left_at d) 0)) ≡ Err (BrokenLayout e) = sym is ∙ h in cc);
   }
 
 module _ (d : Device) (len : ℕ) where
@@ -92,7 +92,7 @@ module _ (d : Device) (len : ℕ) where
   at_rest first some (Some fault) is =
       law-refused d len _ (refusal_of fault) refl (not-layout fault) (λ full all f.
       let same : Some fault ≡ None = sym is ∙ all_read d (directory_blocks d - 1) 2 (λ k low high. all k (omega arith) (omega arith)) in
-      let z : ◌≡◌ {A = ℕ} 0 1 = cc in omega arith)
+      cc)
 
   at-volume : read_fault d 1 1024 ≡ None → (t : Bool) → volume_holds (size_of d) (entry_at d 0) ≡ t
       → JudgementLaw d len (cond t (unless_fault (first_unread d 2 (directory_blocks d - 1)) (verdict d (layout_fault d))) (Err (BrokenLayout 0)))
@@ -104,7 +104,7 @@ module _ (d : Device) (len : ℕ) where
   at_first (Some fault) is =
       law-refused d len _ (refusal_of fault) refl (not-layout fault) (λ full all f.
       let same : Some fault ≡ None = sym is ∙ all 1 (omega arith) f.volume.some in
-      let z : ◌≡◌ {A = ℕ} 0 1 = cc in omega arith)
+      cc)
 
   at_size : (t : Bool) → leb 2 (size_of d) ≡ t → JudgementLaw d len (cond t (unless_fault (read_fault d 1 1024) (volume_judged d)) (Err (BrokenLayout 0)))
   at_size true h = at_first (read_fault d 1 1024) refl
@@ -113,7 +113,7 @@ module _ (d : Device) (len : ℕ) where
   at_length : (t : Bool) → eqb len 1024 ≡ t → JudgementLaw d len (cond t (cond (leb 2 (size_of d)) (unless_fault (read_fault d 1 1024) (volume_judged d)) (Err (BrokenLayout 0))) (Err OutOfRange))
   at_length true h = at_size (leb 2 (size_of d)) refl
   at_length false h =
-      law-refused d len _ OutOfRange refl (λ e q. let z : ◌≡◌ {A = ℕ} 0 1 = cc in omega arith) (λ full all f. eqb-false len 1024 h full)
+      law-refused d len _ OutOfRange refl (λ e q. cc) (λ full all f. eqb-false len 1024 h full)
 
   pub judgement-law : (reply : Result Pack Refusal) → reply ≡ judged d len → JudgementLaw d len reply
   judgement-law reply is = subst (JudgementLaw d len) (sym is) (at_length (eqb len 1024) refl)

@@ -14,7 +14,8 @@ fn holder_of(number: u32) -> u32
     1 + number / ENTRIES
 }
 
-// Reads an entry. The work block is where its block is read to.
+// Reads an entry. The work block is where its block is read to; that its length stays is stated, so that a caller reads
+// here that nothing else of it is decided.
 pub fn read_entry<D: BlockDevice>(
     device: &D,
     number: u32,
@@ -23,9 +24,7 @@ pub fn read_entry<D: BlockDevice>(
     ensures reply { result ≡ entry_read (D.BlockDevice.meaning device.now) number (length work.old) }
     ensures work { WorkBlock work.old work.new }
 {
-    let Some(block) = work.as_mut_array::<BLOCK>() else {
-        return Err(Refusal::OutOfRange);
-    };
+    let block = work.as_mut_array::<BLOCK>().ok_or(Refusal::OutOfRange)?;
     device.read(holder_of(number), block)?;
     Ok(Entry::from_block(block, number))
 }
@@ -42,9 +41,7 @@ pub fn write_entry<D: BlockDevice>(
     ensures work { WorkBlock work.old work.new }
     ensures laws { EntryLaws }
 {
-    let Some(block) = work.as_mut_array::<BLOCK>() else {
-        return Err(Refusal::OutOfRange);
-    };
+    let block = work.as_mut_array::<BLOCK>().ok_or(Refusal::OutOfRange)?;
     device.read(holder_of(number), block)?;
     entry.put_in(block, number);
     device.write(holder_of(number), block)?;

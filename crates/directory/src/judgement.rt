@@ -1,9 +1,7 @@
 // The judgement whether the pack on a device follows the layout.
-ghost use Rattle.std.specs.Prelude.{◌≡◌, ◌-◌, ◌<◌, ◌≤◌, true, length};
-ghost use Rattle.blocks.specs.Devices.{block_at, size_of};
-ghost use Rattle.directory.specs.Entries.{WorkBlock, entry_at};
-ghost use Rattle.directory.specs.Judgements.{JudgementLaw, LayoutLaw, first_unread, judged, layout_fault, unless_fault, verdict, volume_holds, volume_judged};
-ghost use Rattle.directory.specs.Layouts.{directory_blocks, pack_blocks};
+ghost use Rattle.std.specs.Prelude.{◌≡◌, ◌-◌, length};
+ghost use Rattle.directory.specs.Entries.{WorkBlock};
+ghost use Rattle.directory.specs.Judgements.{JudgementLaw, LayoutLaw, first_unread, judged, layout_fault, unless_fault, verdict};
 ghost use Rattle.directory.specs.Seen.{Begun};
 
 use crate::layout::{end_of, head_fault, volume_holds};
@@ -33,7 +31,7 @@ pub(crate) struct Counts {
 }
 
 // The entries of a block, as a number of two bytes.
-const PER_BLOCK: u16 = ENTRIES as u16;
+pub(crate) const PER_BLOCK: u16 = ENTRIES as u16;
 
 // Judges the entries behind the volume's, which holds. Its block is in the work block.
 fn judge_files<D: BlockDevice>(
@@ -42,8 +40,7 @@ fn judge_files<D: BlockDevice>(
     block: &mut [u8; BLOCK],
 ) -> Result<Pack, Refusal>
     requires { Begun (D.BlockDevice.meaning device.now) counts block.old }
-    ensures reply { result ≡ unless_fault (first_unread (D.BlockDevice.meaning device.now) 2 (counts.directory - 1)) (verdict (D.BlockDevice.meaning device.now) (layout_fault (D.BlockDevice.meaning device.now))) }
-    ensures work { WorkBlock block.old block.new }
+    ensures { result ≡ unless_fault (first_unread (D.BlockDevice.meaning device.now) 2 (counts.directory - 1)) (verdict (D.BlockDevice.meaning device.now) (layout_fault (D.BlockDevice.meaning device.now))) }
 {
     let head = head_fault(block, counts.directory);
     let mut seen = Seen {
@@ -54,10 +51,9 @@ fn judge_files<D: BlockDevice>(
         room: 0,
     };
     seen.see_block(block, 3..PER_BLOCK);
-    // a loop and not a fold: a read may fail, and the rest is then not read
-    for number in 2..=u16::from(counts.directory) {
-        device.read(u32::from(number), block)?;
-        seen.see_block(block, PER_BLOCK * (number - 1)..PER_BLOCK * number);
+    for place in 2..=u16::from(counts.directory) {
+        device.read(u32::from(place), block)?;
+        seen.see_block(block, PER_BLOCK * (place - 1)..PER_BLOCK * place);
     }
     seen.tell(head)
 }
@@ -70,9 +66,7 @@ pub fn judge<D: BlockDevice>(device: &D, work: &mut [u8]) -> Result<Pack, Refusa
     ensures layout { LayoutLaw (D.BlockDevice.meaning device.now) }
     ensures work { WorkBlock work.old work.new }
 {
-    let Some(block) = work.as_mut_array::<BLOCK>() else {
-        return Err(Refusal::OutOfRange);
-    };
+    let block = work.as_mut_array::<BLOCK>().ok_or(Refusal::OutOfRange)?;
     if device.size() < 2 {
         return Err(Refusal::BrokenLayout { entry: 0 });
     }

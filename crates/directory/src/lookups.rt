@@ -16,7 +16,7 @@ pub trait Key {
 }
 
 // A file that was found: the number of its entry, and the entry.
-#[derive(Clone, Copy)]
+#[derive(Clone, Copy, PartialEq, Eq, Debug)]
 pub struct Found {
     pub number: u32,
     pub entry: Entry,
@@ -46,11 +46,10 @@ pub fn lookup<D: BlockDevice, K: Key>(
     ensures law { LookupLaw (K.Key.meaning key.now) (D.BlockDevice.meaning device.now) directory (length work.old) result }
     ensures work { WorkBlock work.old work.new }
 {
-    // loops and not a chain: each block is read only when all entries before it are passed, and a read may fail
+    // Nested loops: that no entry before this one ends the search is one fact for both, which a search of one block
+    // would state again of that block.
     for block in 1..=u32::from(directory) {
-        let Some(held) = work.as_mut_array::<BLOCK>() else {
-            return Err(Refusal::OutOfRange);
-        };
+        let held = work.as_mut_array::<BLOCK>().ok_or(Refusal::OutOfRange)?;
         device.read(block, held)?;
         // the three entries before the files are passed over
         let first = (ENTRIES * (block - 1)).max(3);

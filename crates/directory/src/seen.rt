@@ -2,10 +2,10 @@
 ghost use Rattle.std.specs.Prelude.{◌≡◌, ◌-◌};
 ghost use Rattle.directory.specs.Seen.{seen_after, seen_from, told};
 
-use crate::judgement::{Counts, Pack};
+use crate::judgement::{Counts, PER_BLOCK, Pack};
 use crate::layout::{end_of, later_holds};
 use crate::lookups::is_blocks_left;
-use entry::{BLOCK, ENTRIES, Entry};
+use entry::{BLOCK, Entry};
 use refusal::Refusal;
 use std::ops::Range;
 
@@ -52,11 +52,10 @@ impl Seen {
     pub(crate) fn tell(self, head: Option<u16>) -> Result<Pack, Refusal>
         ensures { result ≡ told head self }
     {
-        let Some(left) = self.left else {
-            let behind = ENTRIES * u32::from(self.counts.directory);
-            let entry = head.unwrap_or(behind as u16);
-            return Err(Refusal::BrokenLayout { entry });
-        };
+        let behind = PER_BLOCK * u16::from(self.counts.directory);
+        let left = self.left.ok_or(Refusal::BrokenLayout {
+            entry: head.unwrap_or(behind),
+        })?;
         match head.or(self.fault) {
             Some(entry) => Err(Refusal::BrokenLayout { entry }),
             None => Ok(Pack {

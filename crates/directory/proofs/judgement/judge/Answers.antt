@@ -1,35 +1,53 @@
-use Rattle.std.proofs.Common.{◌≡◌, ◌-◌, length, sym, refl, ap, ◌∙◌, ap₂, arith}
-use Rattle.blocks.specs.Devices.{read_fault}
+use Rattle.std.proofs.Common.{◌≡◌, ◌-◌, Bool, true, false, List, length, ℕ, Err, sym, refl, ap, ◌∙◌, ap₂, arith}
+use Rattle.std.proofs.lemmas.Option.{MatchOption-at_some}
+use Rattle.std.proofs.lemmas.Result.{err_from_is_err_and}
+use Rattle.std.specs.Array.{IsWholeChunk}
+use Rattle.std.specs.Option.{ok_or}
+use Rattle.refusal.specs.declared.Refusal.TheVariants.{OutOfRange}
+use Rattle.blocks.specs.Devices.{Device, read_fault, size_of as blocks_of}
 use Rattle.entry.specs.Fields.{directory_of, entry_in, size_of}
+use Rattle.directory.specs.Entries.{entry_at}
 use Rattle.directory.specs.Judgements.{first_unread, layout_fault, unless_fault, verdict, volume_holds}
-use Rattle.directory.proofs.Carrying.{held, passed-on, refused}
+use Rattle.directory.proofs.Carrying.{Held, held, passed-on, refused}
 use Rattle.directory.proofs.Judging.{layout-law}
 use Rattle.directory.proofs.Verdicts.{bad-volume, good-volume, judgement-law, one_block, unread-first, wrong-length}
 use Rattle.directory.proofs.judgement.judge.Goals as goal
 
-pub returns-in_default : goal.returns-in_default
-returns-in_default g c =
+-- the volume's entry, of the block that was read, and its test
+module _ (d : Device) (before after volume : List ℕ) (h : Held d 1 before after) (read : volume ≡ entry_in after 0) where
+  volume-is : volume ≡ entry_at d 0
+  volume-is = read ∙ ap (λ b. entry_in b 0) h.same
+
+  test-is : (size : ℕ) (test : Bool) → size ≡ blocks_of d → test ≡ volume_holds size volume → volume_holds (blocks_of d) (entry_at d 0) ≡ test
+  test-is size test sized tested = sym (tested ∙ ap₂ volume_holds sized volume-is)
+
+pub returns-in_err-block : goal.returns-in_err-block
+returns-in_err-block g c =
     let d = g.D.BlockDevice.meaning c.args.device.now in
     let len = length c.args.work.now in
-    let reply = wrong-length d len c.in_default.ensures.cases in
+    let exit = err_from_is_err_and c.from_residual.result c.from_residual.ensures.1 in
+    let other : len ≡ 1024 → ⊥ = λ q. let never : false ≡ true = c.in_err-block.ensures.variant ∙ c.as_mut_array.ensures.variant.1 q in cc in
+    let is : c.in_err-block.field-0.0 ≡ OutOfRange = (let h = c.in_err-block.ensures.value ∙ ap (λ o. ok_or o OutOfRange) c.in_err-block.ensures.ok_part in cc) in
+    let reply = exit.1 ∙ ap Err (exit.2 ∙ is) ∙ wrong-length d len other in
     record { reply = reply; law = judgement-law d len _ reply; layout = layout-law d; work = refl }
 
 pub returns-then-size-lt2 : goal.returns-then-size-lt2
 returns-then-size-lt2 g c =
     let d = g.D.BlockDevice.meaning c.args.device.now in
     let len = length c.args.work.now in
-    let reply = one_block d len c.in-Some.ensures.cases.long (omega (arith, c.size.ensures, c.if-size-lt2.true)) in
-    record { reply = reply; law = judgement-law d len _ reply; layout = layout-law d; work = ap length c.in-Some.ensures.cases.same }
+    let whole : IsWholeChunk c.args.work.now c.in_ok-block.block.now 1024 = MatchOption-at_some _ _ c.in_ok-block.block c.in_ok-block.ensures.ok_part c.as_mut_array.ensures.cases in
+    let reply = one_block d len whole.long (omega (arith, c.size.ensures, c.if-size-lt2.true)) in
+    record { reply = reply; law = judgement-law d len _ reply; layout = layout-law d; work = ap length whole.same }
 
 pub returns-in_err-read : goal.returns-in_err-read
 returns-in_err-read g c =
     let d = g.D.BlockDevice.meaning c.args.device.now in
     let len = length c.args.work.now in
-    let whole = c.in-Some.ensures.cases in
+    let whole : IsWholeChunk c.args.work.now c.in_ok-block.block.now 1024 = MatchOption-at_some _ _ c.in_ok-block.block c.in_ok-block.ensures.ok_part c.as_mut_array.ensures.cases in
     let f = c.in_err-read.field-0.0 in
-    let full : length c.in-Some.block.now ≡ 1024 = ap length whole.same ∙ whole.long in
-    let met = ap (read_fault d 1) (sym full) ∙ refused (read_fault d 1 (length c.in-Some.block.now)) f c.in_err-read.ensures.reply in
-    let reply = passed-on c.from_residual.result f c.from_residual.ensures.1
+    let full : length c.in_ok-block.block.now ≡ 1024 = ap length whole.same ∙ whole.long in
+    let met = ap (read_fault d 1) (sym full) ∙ refused (read_fault d 1 (length c.in_ok-block.block.now)) f c.in_err-read.ensures.reply in
+    let reply = passed-on c.from_residual-in_err-read.result f c.from_residual-in_err-read.ensures.1
     ∙ unread-first d len whole.long (omega (arith, c.size.ensures, c.if-size-lt2.false)) f met in
     record { reply = reply; law = judgement-law d len _ reply; layout = layout-law d; work = c.read.auto.buffer ∙ ap length whole.same }
 
@@ -37,33 +55,41 @@ pub returns-then-not-volume_holds : goal.returns-then-not-volume_holds
 returns-then-not-volume_holds g c =
     let d = g.D.BlockDevice.meaning c.args.device.now in
     let len = length c.args.work.now in
-    let whole = c.in-Some.ensures.cases in
-    let h = held d 1 c.in-Some.block.now c.read.new.buffer c.in_ok-read.field-0 (g.met.D.BlockDevice.wide c.args.device.now) c.in_ok-read.ensures.reply c.in_ok-read.ensures.filled in
-    let test = c.volume_holds.ensures ∙ ap₂ volume_holds c.size-2.ensures (c.from_block-volume.ensures ∙ ap (λ b. entry_in b 0) h.same) in
-    let reply = bad-volume d len whole.long (omega (arith, c.size.ensures, c.if-size-lt2.false)) (ap (read_fault d 1) (sym h.full) ∙ h.none) (sym test ∙ c.if-not-volume_holds.true) in
+    let block = c.in_ok-block.block.now in
+    let whole : IsWholeChunk c.args.work.now block 1024 = MatchOption-at_some _ _ c.in_ok-block.block c.in_ok-block.ensures.ok_part c.as_mut_array.ensures.cases in
+    let h = held d 1 block c.read.new.buffer c.in_ok-read.field-0 (g.met.D.BlockDevice.wide c.args.device.now) c.in_ok-read.ensures.reply c.in_ok-read.ensures.filled in
+    let test = test-is d block c.read.new.buffer c.from_block-volume.result.bytes h c.from_block-volume.ensures c.size-2.result c.volume_holds.result c.size-2.ensures c.volume_holds.ensures in
+    let reply = bad-volume d len whole.long (omega (arith, c.size.ensures, c.if-size-lt2.false)) (ap (read_fault d 1) (sym h.full) ∙ h.none) (test ∙ c.if-not-volume_holds.true) in
     record { reply = reply; law = judgement-law d len _ reply; layout = layout-law d; work = c.read.auto.buffer ∙ ap length whole.same }
 
 pub judge_files-requires : goal.judge_files-requires
 judge_files-requires g c =
     let d = g.D.BlockDevice.meaning c.args.device.now in
-    let h = held d 1 c.in-Some.block.now c.read.new.buffer c.in_ok-read.field-0 (g.met.D.BlockDevice.wide c.args.device.now) c.in_ok-read.ensures.reply c.in_ok-read.ensures.filled in
-    let volume = c.from_block-volume.ensures ∙ ap (λ b. entry_in b 0) h.same in
+    let block = c.in_ok-block.block.now in
+    let h = held d 1 block c.read.new.buffer c.in_ok-read.field-0 (g.met.D.BlockDevice.wide c.args.device.now) c.in_ok-read.ensures.reply c.in_ok-read.ensures.filled in
+    let volume = volume-is d block c.read.new.buffer c.from_block-volume.result.bytes h c.from_block-volume.ensures in
     record {
       first = h.same;
-      holds = sym (c.volume_holds.ensures ∙ ap₂ volume_holds c.size-2.ensures volume) ∙ c.if-not-volume_holds.false;
+      holds = test-is d block c.read.new.buffer c.from_block-volume.result.bytes h c.from_block-volume.ensures c.size-2.result c.volume_holds.result c.size-2.ensures c.volume_holds.ensures
+          ∙ c.if-not-volume_holds.false;
       blocks = c.size-3.ensures ∙ ap size_of volume;
       directory = c.directory_blocks.ensures ∙ ap directory_of volume;
     }
 
-pub returns : goal.returns
-returns g c =
+pub returns-clause-reply : goal.returns-clause-reply
+returns-clause-reply g c =
     let d = g.D.BlockDevice.meaning c.args.device.now in
     let len = length c.args.work.now in
-    let whole = c.in-Some.ensures.cases in
-    let h = held d 1 c.in-Some.block.now c.read.new.buffer c.in_ok-read.field-0 (g.met.D.BlockDevice.wide c.args.device.now) c.in_ok-read.ensures.reply c.in_ok-read.ensures.filled in
-    let volume = c.from_block-volume.ensures ∙ ap (λ b. entry_in b 0) h.same in
-    let test = c.volume_holds.ensures ∙ ap₂ volume_holds c.size-2.ensures volume in
-    let directory = c.directory_blocks.ensures ∙ ap directory_of volume in
-    let reply = c.judge_files.ensures.reply ∙ ap (λ n. unless_fault (first_unread d 2 (n - 1)) (verdict d (layout_fault d))) directory
-    ∙ good-volume d len whole.long (omega (arith, c.size.ensures, c.if-size-lt2.false)) (ap (read_fault d 1) (sym h.full) ∙ h.none) (sym test ∙ c.if-not-volume_holds.false) in
-    record { reply = reply; law = judgement-law d len _ reply; layout = layout-law d; work = c.judge_files.ensures.work ∙ c.read.auto.buffer ∙ ap length whole.same }
+    let block = c.in_ok-block.block.now in
+    let whole : IsWholeChunk c.args.work.now block 1024 = MatchOption-at_some _ _ c.in_ok-block.block c.in_ok-block.ensures.ok_part c.as_mut_array.ensures.cases in
+    let h = held d 1 block c.read.new.buffer c.in_ok-read.field-0 (g.met.D.BlockDevice.wide c.args.device.now) c.in_ok-read.ensures.reply c.in_ok-read.ensures.filled in
+    let test = test-is d block c.read.new.buffer c.from_block-volume.result.bytes h c.from_block-volume.ensures c.size-2.result c.volume_holds.result c.size-2.ensures c.volume_holds.ensures in
+    let directory = c.directory_blocks.ensures ∙ ap directory_of (volume-is d block c.read.new.buffer c.from_block-volume.result.bytes h c.from_block-volume.ensures) in
+    c.judge_files.ensures ∙ ap (λ n. unless_fault (first_unread d 2 (n - 1)) (verdict d (layout_fault d))) directory
+    ∙ good-volume d len whole.long (omega (arith, c.size.ensures, c.if-size-lt2.false)) (ap (read_fault d 1) (sym h.full) ∙ h.none) (test ∙ c.if-not-volume_holds.false)
+
+pub returns-clause-law : goal.returns-clause-law
+returns-clause-law g c = judgement-law (g.D.BlockDevice.meaning c.args.device.now) (length c.args.work.now) _ (returns-clause-reply g c)
+
+pub returns-clause-layout : goal.returns-clause-layout
+returns-clause-layout g c = layout-law (g.D.BlockDevice.meaning c.args.device.now)

@@ -10,7 +10,7 @@ use Rattle.directory.proofs.Carrying.{held, passed-on, refused}
 use Rattle.directory.proofs.Passing.{SoFar, begins, head-is, seen-block, told_is, unread-ends, unread-none, unread-on}
 use Rattle.directory.proofs.Testing.{volume-follows}
 use Rattle.directory.proofs.judgement.judge_files.Goals as goal
-use Rattle.directory.proofs.judgement.judge_files.Goals.{else-loop-number-test, then-loop-number-test+in_ok-read+else-number-number-end}
+use Rattle.directory.proofs.judgement.judge_files.Goals.{else-loop-place-test, then-loop-place-test+in_ok-read+else-place-place-end}
 
 -- one block more is read and seen
 module _ (d : Device) (wide : (b : ℕ) → b < size_of d → length (block_at d b) ≡ 1024) (b at : ℕ) (is : at ≡ b) (before after : List ℕ) (done : Unit {0})
@@ -25,8 +25,8 @@ module _ (d : Device) (wide : (b : ℕ) → b < size_of d → length (block_at d
       let h = held d at before after done wide reply filled in
       unread-on d b (directory + 1 - b) (directory + 1 - (b + 1)) (omega arith) (ap₂ (read_fault d) (sym is) (sym h.full) ∙ h.none)
 
-pub loop-number-init : goal.loop-number-init
-loop-number-init g c =
+pub loop-place-init : goal.loop-place-init
+loop-place-init g c =
     let d = g.D.BlockDevice.meaning c.args.device.now in
     let s : Seen = record { counts = c.args.counts; end = c.end_of.result; fault = None; left = None; room = 0 } in
     let end : c.end_of.result ≡ end_of (entry_at d 2) = c.end_of.ensures ∙ ap end_of (c.from_block.ensures ∙ ap (λ b. entry_in b 2) c.requires.first) in
@@ -38,59 +38,59 @@ loop-number-init g c =
       left = ap (first_unread d 2) (omega arith);
     }
 
-pub returns-in_err-read-clause-reply : goal.returns-in_err-read-clause-reply
-returns-in_err-read-clause-reply g c =
+pub returns-in_err-read : goal.returns-in_err-read
+returns-in_err-read g c =
     let d = g.D.BlockDevice.meaning c.args.device.now in
-    let b = c.loop-number.number in
+    let b = c.loop-place.place in
     let f = c.in_err-read.field-0.0 in
-    let met : read_fault d b 1024 ≡ Some f = ap₂ (read_fault d) (sym c.from.ensures) (sym c.loop-number.invariant.full)
-    ∙ refused (read_fault d c.from.result (length c.loop-number.block)) f c.in_err-read.ensures.reply in
+    let met : read_fault d b 1024 ≡ Some f = ap₂ (read_fault d) (sym c.from.ensures) (sym c.loop-place.invariant.full)
+    ∙ refused (read_fault d c.from.result (length c.loop-place.block)) f c.in_err-read.ensures.reply in
     passed-on c.from_residual.result f c.from_residual.ensures.1
     ∙ unread-ends d (verdict d (layout_fault d)) f b (c.args.counts.directory + 1 - b) (c.args.counts.directory - b) _
-    (omega (arith, c.loop-number-test.true, c.from-number-end.ensures)) met c.loop-number.invariant.left
+    (omega (arith, c.loop-place-test.true, c.from-place-end.ensures)) met c.loop-place.invariant.left
 
-pub loop-number-preserved : goal.loop-number-preserved
-loop-number-preserved g c =
+pub loop-place-preserved : goal.loop-place-preserved
+loop-place-preserved g c =
     let d = g.D.BlockDevice.meaning c.args.device.now in
-    let b = c.loop-number.number in
+    let b = c.loop-place.place in
     let wide = g.met.D.BlockDevice.wide c.args.device.now in
     let reply = c.in_ok-read.ensures.reply in
     let filled = c.in_ok-read.ensures.filled in
     record {
-      high = omega (arith, c.loop-number-test.true, c.from-number-end.ensures);
-      full = (held d c.from.result c.loop-number.block c.read.new.buffer c.in_ok-read.field-0 wide reply filled).long;
-      seen = subst (λ e. SoFar d e c.see_block-in-loop-number.new.self) (let z : 39 * b ≡ 39 * (b + 1 - 1) = omega arith in z)
-          (seen_more d wide b c.from.result c.from.ensures c.loop-number.block c.read.new.buffer c.in_ok-read.field-0 reply filled
-          c.loop-number.seen c.see_block-in-loop-number.new.self c.loop-number.auto.number c.loop-number.invariant.seen c.see_block-in-loop-number.ensures);
-      left = read_more d wide b c.from.result c.from.ensures c.loop-number.block c.read.new.buffer c.in_ok-read.field-0 reply filled
-          c.args.counts.directory (omega (arith, c.loop-number-test.true, c.from-number-end.ensures)) ∙ c.loop-number.invariant.left;
+      high = omega (arith, c.loop-place-test.true, c.from-place-end.ensures);
+      full = (held d c.from.result c.loop-place.block c.read.new.buffer c.in_ok-read.field-0 wide reply filled).long;
+      seen = subst (λ e. SoFar d e c.see_block-in-loop-place.new.self) (let z : 39 * b ≡ 39 * (b + 1 - 1) = omega arith in z)
+          (seen_more d wide b c.from.result c.from.ensures c.loop-place.block c.read.new.buffer c.in_ok-read.field-0 reply filled
+          c.loop-place.seen c.see_block-in-loop-place.new.self c.loop-place.auto.place c.loop-place.invariant.seen c.see_block-in-loop-place.ensures);
+      left = read_more d wide b c.from.result c.from.ensures c.loop-place.block c.read.new.buffer c.in_ok-read.field-0 reply filled
+          c.args.counts.directory (omega (arith, c.loop-place-test.true, c.from-place-end.ensures)) ∙ c.loop-place.invariant.left;
     }
 
-pub returns-clause-reply : goal.returns-clause-reply
-returns-clause-reply g c =
+pub returns : goal.returns
+returns g c =
     let d = g.D.BlockDevice.meaning c.args.device.now in
     let wide = g.met.D.BlockDevice.wide c.args.device.now in
-    let b = c.loop-number.number in
+    let b = c.loop-place.place in
     let some = (volume-follows d c.requires.holds).some in
-    let seen : SoFar d (39 * directory_blocks d) c.loop-number-test.seen × (first_unread d 2 (c.args.counts.directory - 1) ≡ None) =
-    elim c.loop-number-test.branch [
-      | else-loop-number-test w ↦
-          (let end : b ≡ c.args.counts.directory + 1 = omega (arith, w.loop-number-test.false, c.from-number-end.ensures, c.loop-number.invariant.high) in (
+    let seen : SoFar d (39 * directory_blocks d) c.loop-place-test.seen × (first_unread d 2 (c.args.counts.directory - 1) ≡ None) =
+    elim c.loop-place-test.branch [
+      | else-loop-place-test w ↦
+          (let end : b ≡ c.args.counts.directory + 1 = omega (arith, w.loop-place-test.false, c.from-place-end.ensures, c.loop-place.invariant.high) in (
             subst (λ s. SoFar d (39 * directory_blocks d) s) (sym w.seen-is)
-                (subst (λ e. SoFar d e c.loop-number.seen) (let z : 39 * (b - 1) ≡ 39 * directory_blocks d = omega (arith, end, c.requires.directory) in z) c.loop-number.invariant.seen),
-            sym c.loop-number.invariant.left ∙ ap (first_unread d b) (let z : c.args.counts.directory + 1 - b ≡ 0 = omega (arith, end) in z),
+                (subst (λ e. SoFar d e c.loop-place.seen) (let z : 39 * (b - 1) ≡ 39 * directory_blocks d = omega (arith, end, c.requires.directory) in z) c.loop-place.invariant.seen),
+            sym c.loop-place.invariant.left ∙ ap (first_unread d b) (let z : c.args.counts.directory + 1 - b ≡ 0 = omega (arith, end) in z),
           ))
-      | then-loop-number-test+in_ok-read+else-number-number-end w ↦ (
-        subst (λ e. SoFar d e c.loop-number-test.seen) (let z : 39 * b ≡ 39 * directory_blocks d = omega (arith, w.loop-number-test.true, c.from-number-end.ensures, c.requires.directory) in z)
+      | then-loop-place-test+in_ok-read+else-place-place-end w ↦ (
+        subst (λ e. SoFar d e c.loop-place-test.seen) (let z : 39 * b ≡ 39 * directory_blocks d = omega (arith, w.loop-place-test.true, c.from-place-end.ensures, c.requires.directory) in z)
             (subst (SoFar d (39 * b)) (sym w.seen-is)
-            (seen_more d wide b w.from.result w.from.ensures c.loop-number.block w.read.new.buffer w.in_ok-read.field-0 w.in_ok-read.ensures.reply w.in_ok-read.ensures.filled
-            c.loop-number.seen w.see_block-in-loop-number.new.self c.loop-number.auto.number c.loop-number.invariant.seen w.see_block-in-loop-number.ensures)),
-        sym (read_more d wide b w.from.result w.from.ensures c.loop-number.block w.read.new.buffer w.in_ok-read.field-0 w.in_ok-read.ensures.reply w.in_ok-read.ensures.filled
-            c.args.counts.directory (omega (arith, w.loop-number-test.true, c.from-number-end.ensures)) ∙ c.loop-number.invariant.left)
-            ∙ ap (first_unread d (b + 1)) (let z : c.args.counts.directory + 1 - (b + 1) ≡ 0 = omega (arith, w.loop-number-test.true, c.from-number-end.ensures) in z),
+            (seen_more d wide b w.from.result w.from.ensures c.loop-place.block w.read.new.buffer w.in_ok-read.field-0 w.in_ok-read.ensures.reply w.in_ok-read.ensures.filled
+            c.loop-place.seen w.see_block-in-loop-place.new.self c.loop-place.auto.place c.loop-place.invariant.seen w.see_block-in-loop-place.ensures)),
+        sym (read_more d wide b w.from.result w.from.ensures c.loop-place.block w.read.new.buffer w.in_ok-read.field-0 w.in_ok-read.ensures.reply w.in_ok-read.ensures.filled
+            c.args.counts.directory (omega (arith, w.loop-place-test.true, c.from-place-end.ensures)) ∙ c.loop-place.invariant.left)
+            ∙ ap (first_unread d (b + 1)) (let z : c.args.counts.directory + 1 - (b + 1) ≡ 0 = omega (arith, w.loop-place-test.true, c.from-place-end.ensures) in z),
       )
     ] in
     c.tell.ensures
-    ∙ told_is d c.loop-number-test.seen c.head_fault-head.result seen.0 some
+    ∙ told_is d c.loop-place-test.seen c.head_fault-head.result seen.0 some
     (c.head_fault-head.ensures ∙ head-is d c.args.block.now c.args.counts.directory c.requires.holds c.requires.first c.requires.directory)
     ∙ unread-none (verdict d (layout_fault d)) _ seen.1

@@ -1,19 +1,27 @@
-use Rattle.std.proofs.Common.{◌≡◌, ◌-◌, ◌*◌, length, max, sym, ap, ◌∙◌, subst, arith}
+use Rattle.std.proofs.Common.{◌≡◌, true, false, Err, ◌-◌, ◌*◌, length, max, sym, ap, ◌∙◌, subst, arith}
+use Rattle.std.proofs.lemmas.Option.{MatchOption-at_some}
+use Rattle.std.proofs.lemmas.Result.{err_from_is_err_and}
+use Rattle.std.specs.Array.{IsWholeChunk}
+use Rattle.std.specs.Option.{ok_or}
+use Rattle.refusal.specs.declared.Refusal.TheVariants.{OutOfRange as Refused}
 use Rattle.blocks.specs.declared.faults.Fault.TheVariants.{OutOfRange}
 use Rattle.blocks.specs.Devices.{read_fault}
 use Rattle.directory.proofs.Carrying.{held, no-block, passed-on, refused}
 use Rattle.directory.proofs.Matching.{Ahead, at-blocks-left, at-fault, at_last, at-match, past, lookup-law}
 use Rattle.directory.proofs.lookups.lookup.Goals as goal
 
-pub returns-in_default : goal.returns-in_default
-returns-in_default g c =
+pub returns-in_err-held : goal.returns-in_err-held
+returns-in_err-held g c =
     let d = g.D.BlockDevice.meaning c.args.device.now in
     let fits = g.K.Key.meaning c.args.key.now in
     let len = length c.args.work.now in
     let b = c.loop-block.block in
-    let e = max (39 * (b - 1)) 3 in
-    let reply = at-fault fits d c.args.directory len e c.loop-block.invariant (omega (arith, c.loop-block-test.true, c.from-block-end.ensures, c.loop-block.auto.block))
-    (OutOfRange b) b (omega (arith, c.loop-block.auto.block)) (no-block d b len (λ q. c.in_default.ensures.cases (c.loop-block.auto.work ∙ q))) in
+    let exit = err_from_is_err_and c.from_residual.result c.from_residual.ensures.1 in
+    let other : length c.loop-block.work ≡ 1024 → ⊥ = λ q. let never : false ≡ true = c.in_err-held.ensures.variant ∙ c.as_mut_array.ensures.variant.1 q in cc in
+    let is : c.in_err-held.field-0.0 ≡ Refused = (let h = c.in_err-held.ensures.value ∙ ap (λ o. ok_or o Refused) c.in_err-held.ensures.ok_part in cc) in
+    let reply = exit.1 ∙ ap Err (exit.2 ∙ is)
+    ∙ at-fault fits d c.args.directory len (max (39 * (b - 1)) 3) c.loop-block.invariant (omega (arith, c.loop-block-test.true, c.from-block-end.ensures, c.loop-block.auto.block))
+    (OutOfRange b) b (omega (arith, c.loop-block.auto.block)) (no-block d b len (λ q. other (c.loop-block.auto.work ∙ q))) in
     record { reply = reply; law = lookup-law fits d c.args.directory len _ reply; work = c.loop-block.auto.work }
 
 pub returns-in_err-read : goal.returns-in_err-read
@@ -24,9 +32,10 @@ returns-in_err-read g c =
     let b = c.loop-block.block in
     let e = max (39 * (b - 1)) 3 in
     let f = c.in_err-read.field-0.0 in
-    let long : length c.in-Some.held.now ≡ length c.args.work.now = ap length c.in-Some.ensures.cases.same ∙ c.loop-block.auto.work in
-    let met = ap (read_fault d b) (sym long) ∙ refused (read_fault d b (length c.in-Some.held.now)) f c.in_err-read.ensures.reply in
-    let reply = passed-on c.from_residual.result f c.from_residual.ensures.1
+    let whole : IsWholeChunk c.loop-block.work c.in_ok-held.held.now 1024 = MatchOption-at_some _ _ c.in_ok-held.held c.in_ok-held.ensures.ok_part c.as_mut_array.ensures.cases in
+    let long : length c.in_ok-held.held.now ≡ length c.args.work.now = ap length whole.same ∙ c.loop-block.auto.work in
+    let met = ap (read_fault d b) (sym long) ∙ refused (read_fault d b (length c.in_ok-held.held.now)) f c.in_err-read.ensures.reply in
+    let reply = passed-on c.from_residual-in_err-read.result f c.from_residual-in_err-read.ensures.1
     ∙ at-fault fits d c.args.directory len e c.loop-block.invariant (omega (arith, c.loop-block-test.true, c.from-block-end.ensures, c.loop-block.auto.block))
     f b (omega (arith, c.loop-block.auto.block)) met in
     record { reply = reply; law = lookup-law fits d c.args.directory len _ reply; work = c.read.auto.buffer ∙ long }
@@ -34,10 +43,11 @@ returns-in_err-read g c =
 pub loop-number-preserved : goal.loop-number-preserved
 loop-number-preserved g c =
     let d = g.D.BlockDevice.meaning c.args.device.now in
-    let before = c.in-Some.held.now in
+    let before = c.in_ok-held.held.now in
     let after = c.read.new.buffer in
     let b = c.loop-block.block in
-    let long : length before ≡ length c.args.work.now = ap length c.in-Some.ensures.cases.same ∙ c.loop-block.auto.work in
+    let whole : IsWholeChunk c.loop-block.work c.in_ok-held.held.now 1024 = MatchOption-at_some _ _ c.in_ok-held.held c.in_ok-held.ensures.ok_part c.as_mut_array.ensures.cases in
+    let long : length before ≡ length c.args.work.now = ap length whole.same ∙ c.loop-block.auto.work in
     let h = held d b before after c.in_ok-read.field-0 (g.met.D.BlockDevice.wide c.args.device.now) c.in_ok-read.ensures.reply c.in_ok-read.ensures.filled in
     past (g.K.Key.meaning c.args.key.now) d c.args.directory (length c.args.work.now) c.loop-number.number c.loop-number.invariant
     (omega (arith, c.loop-number-test.true, c.loop-block-test.true, c.from-block-end.ensures))
@@ -48,10 +58,11 @@ pub returns-then-is_blocks_left : goal.returns-then-is_blocks_left
 returns-then-is_blocks_left g c =
     let d = g.D.BlockDevice.meaning c.args.device.now in
     let fits = g.K.Key.meaning c.args.key.now in
-    let before = c.in-Some.held.now in
+    let before = c.in_ok-held.held.now in
     let after = c.read.new.buffer in
     let b = c.loop-block.block in
-    let long : length c.in-Some.held.now ≡ length c.args.work.now = ap length c.in-Some.ensures.cases.same ∙ c.loop-block.auto.work in
+    let whole : IsWholeChunk c.loop-block.work c.in_ok-held.held.now 1024 = MatchOption-at_some _ _ c.in_ok-held.held c.in_ok-held.ensures.ok_part c.as_mut_array.ensures.cases in
+    let long : length c.in_ok-held.held.now ≡ length c.args.work.now = ap length whole.same ∙ c.loop-block.auto.work in
     let h = held d b before after c.in_ok-read.field-0 (g.met.D.BlockDevice.wide c.args.device.now) c.in_ok-read.ensures.reply c.in_ok-read.ensures.filled in
     let reply = at-blocks-left fits d c.args.directory (length c.args.work.now) c.loop-number.number c.loop-number.invariant
     (omega (arith, c.loop-number-test.true, c.loop-block-test.true, c.from-block-end.ensures))
@@ -63,10 +74,11 @@ pub returns-then-is_match : goal.returns-then-is_match
 returns-then-is_match g c =
     let d = g.D.BlockDevice.meaning c.args.device.now in
     let fits = g.K.Key.meaning c.args.key.now in
-    let before = c.in-Some.held.now in
+    let before = c.in_ok-held.held.now in
     let after = c.read.new.buffer in
     let b = c.loop-block.block in
-    let long : length c.in-Some.held.now ≡ length c.args.work.now = ap length c.in-Some.ensures.cases.same ∙ c.loop-block.auto.work in
+    let whole : IsWholeChunk c.loop-block.work c.in_ok-held.held.now 1024 = MatchOption-at_some _ _ c.in_ok-held.held c.in_ok-held.ensures.ok_part c.as_mut_array.ensures.cases in
+    let long : length c.in_ok-held.held.now ≡ length c.args.work.now = ap length whole.same ∙ c.loop-block.auto.work in
     let h = held d b before after c.in_ok-read.field-0 (g.met.D.BlockDevice.wide c.args.device.now) c.in_ok-read.ensures.reply c.in_ok-read.ensures.filled in
     let reply = at-match fits d c.args.directory (length c.args.work.now) c.loop-number.number c.loop-number.invariant
     (omega (arith, c.loop-number-test.true, c.loop-block-test.true, c.from-block-end.ensures))
@@ -94,4 +106,5 @@ returns-in_ok-read g c =
     let fits = g.K.Key.meaning c.args.key.now in
     let len = length c.args.work.now in
     let reply = at_last fits d c.args.directory len c.loop-number.number c.loop-number.invariant (omega (arith, c.loop-number-test.false, c.from-block-end.ensures)) in
-    record { reply = reply; law = lookup-law fits d c.args.directory len _ reply; work = c.read.auto.buffer ∙ ap length c.in-Some.ensures.cases.same ∙ c.loop-block.auto.work }
+    let whole : IsWholeChunk c.loop-block.work c.in_ok-held.held.now 1024 = MatchOption-at_some _ _ c.in_ok-held.held c.in_ok-held.ensures.ok_part c.as_mut_array.ensures.cases in
+    record { reply = reply; law = lookup-law fits d c.args.directory len _ reply; work = c.read.auto.buffer ∙ ap length whole.same ∙ c.loop-block.auto.work }
