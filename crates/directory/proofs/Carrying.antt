@@ -57,35 +57,3 @@ held d b before after done wide reply filled =
     let same : after ≡ block_at d b = filled ∙ ap (λ o. read_out o (block_at d b) before) none in
     let range = in-range d b (length before) none in
     record { none = none; same = same; full = range.1; long = ap length same ∙ wide b range.0 }
-
-module _ (d : Device) (e : ℕ) (before : List ℕ) where
-  read_first : (b : ℕ) (o : Option Fault) → b ≡ holder_of e → read_fault d b (length before) ≡ o
-      → entry_fault d e (length before) ≡ option_or o (write_fault d (holder_of e) (length before))
-  read_first b o at is = ap (λ o. option_or o (write_fault d (holder_of e) (length before))) (ap (λ b. read_fault d b (length before)) (sym at) ∙ is)
-
-  -- the entry in the block that was read
-  pub entry-held : (b : ℕ) (after : List ℕ) (entry : Entry) → b ≡ holder_of e → Held d b before after → entry.bytes ≡ entry_in after e
-      → Ok entry ≡ entry_read d e (length before)
-  entry-held b after entry at h is =
-      ap (λ bytes. Ok (record { bytes = bytes })) (is ∙ ap (λ block. entry_in block e) (h.same ∙ ap (block_at d) at))
-      ∙ sym (ap (entry_or (entry_at d e)) (ap (λ b. read_fault d b (length before)) (sym at) ∙ h.none))
-
-  -- the block was not read: so no entry is
-  pub entry-unread : (b : ℕ) (fault : Fault) → b ≡ holder_of e → read_fault d b (length before) ≡ Some fault → Err (refusal_of fault) ≡ entry_read d e (length before)
-  entry-unread b fault at is = sym (ap (entry_or (entry_at d e)) (ap (λ b. read_fault d b (length before)) (sym at) ∙ is))
-
-  -- and writing the entry is refused as that was
-  pub unread : (b : ℕ) (fault : Fault) → b ≡ holder_of e → read_fault d b (length before) ≡ Some fault → entry_fault d e (length before) ≡ Some fault
-  unread b fault at is = read_first b (Some fault) at is
-
-  -- the block was read: writing the entry is refused as writing the block is
-  pub write-fault : (b c : ℕ) (after put : List ℕ) → b ≡ holder_of e → c ≡ holder_of e → Held d b before after → length put ≡ 1024
-      → write_fault d c (length put) ≡ entry_fault d e (length before)
-  write-fault b c after put at at' h long = ap₂ (write_fault d) at' (long ∙ sym h.full) ∙ sym (read_first b None at h.none)
-
-  -- and what is written is the entry in its place
-  pub entry-written : (o : Option Fault) (b c : ℕ) (after put bytes : List ℕ) → b ≡ holder_of e → c ≡ holder_of e → Held d b before after
-      → put ≡ put_in after e bytes → written o d c put ≡ put_unless o d e bytes
-  entry-written None b c after put bytes at at' h is =
-      ap₂ (λ c block. written None d c block) at' (is ∙ ap (λ block. put_in block e bytes) (h.same ∙ ap (block_at d) at))
-  entry-written (Some f) b c after put bytes at at' h is = refl

@@ -15,11 +15,6 @@ use Rattle.directory.proofs.Firsts.{IsFirst, first-here, first-is, first_on}
 abbrev pub Ahead : (List ℕ → Bool) → Device → ℕ → ℕ → ℕ → Type 0
 Ahead fits d directory len e = first_that (ends_at fits d len) e (39 * directory - e) ≡ first_that (ends_at fits d len) 3 (39 * directory - 3)
 
-abbrev number_of : Result (Option Found) Refusal → ℕ
-number_of (Ok (Some f)) = f.number
-number_of (Ok None) = 0
-number_of (Err refusal) = 0
-
 -- the three kinds of answer
 module _ (fits : List ℕ → Bool) (d : Device) (directory len : ℕ) (reply : Result (Option Found) Refusal) where
   law-none : reply ≡ Ok None → ((e : ℕ) → Match fits d directory e → ⊥) → LookupLaw fits d directory len reply
@@ -33,7 +28,7 @@ module _ (fits : List ℕ → Bool) (d : Device) (directory len : ℕ) (reply : 
 
   law-found : (e : ℕ) → reply ≡ Ok (Some (found_at d e)) → FirstMatch fits d directory e → LookupLaw fits d directory len reply
   law-found e is m = record {
-    found = λ f h. subst (FirstMatch fits d directory) (ap number_of (sym is ∙ h)) m;
+    found = λ f h. subst (FirstMatch fits d directory) (let same : Ok (Some (found_at d e)) ≡ Ok (Some f) = sym is ∙ h in let z : found_at d e ≡ f = cc in ap (λ k. k.number) z) m;
     first = λ all f n. is ∙ ap (λ k. Ok (Some (found_at d k))) (omega (arith, m.least f n.match, n.least e m.match));
     none = λ h. absurd (let same : Ok None ≡ Ok (Some (found_at d e)) = sym h ∙ is in cc);
     only = λ all h. absurd (h e m.match);

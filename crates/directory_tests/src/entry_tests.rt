@@ -1,9 +1,9 @@
 // Entries read and written in their places, on images of four blocks and on a disk.
+use crate::packs::*;
 use blocks::{BlockDevice, Image};
 use directory::{read_entry, write_entry};
 use entry::Entry;
 use refusal::Refusal;
-use sectors::SectorDisk;
 use std::alloc::Global;
 use std::process::Abort;
 use std::test::*;
@@ -21,16 +21,14 @@ const PLACES: [(u32, usize); 6] = [
 const NINES: Entry = Entry { bytes: [9; 26] };
 
 // Four blocks of sevens.
-fn image(heap: Global, protected: bool) -> Result<Image, Fail> {
+fn sevens(heap: Global, protected: bool) -> Result<Image, Fail> {
     Ok(Image::new(vec![in heap; 7; 4096]?, protected)?)
 }
 
 // Checks that an image is of sevens but for 26 nines from there on.
 fn check_nines(rt: &impl Abort, heap: Global, image: Image, from: usize) -> Result<(), Fail> {
     let mut bytes = vec![in heap; 7; 4096]?;
-    for byte in bytes.as_mut_slice().iter_mut().skip(from).take(26) {
-        *byte = 9;
-    }
+    fill(bytes.as_mut_slice(), from, 26, 9);
     assert!(rt; image.into_bytes().as_slice() == bytes.as_slice());
     Ok(())
 }
@@ -42,8 +40,7 @@ fn check_entry<D: BlockDevice>(
     number: u32,
     bytes: [u8; 26],
 ) -> Result<(), Fail> {
-    let entry = read_entry(device, number, &mut [0; 1024])?;
-    assert!(rt; entry.bytes == bytes);
+    assert_eq!(rt; read_entry(device, number, &mut [0; 1024]), Ok(Entry { bytes }));
     Ok(())
 }
 
@@ -55,7 +52,7 @@ fn check_neither<D: BlockDevice>(
     work: &mut [u8],
     refusal: Refusal,
 ) -> Result<(), Fail> {
-    assert_eq!(rt; read_entry(device, number, work).err(), Some(refusal));
+    assert_eq!(rt; read_entry(device, number, work), Err(refusal));
     assert_eq!(rt; write_entry(device, number, &NINES, work), Err(refusal));
     Ok(())
 }
@@ -63,7 +60,7 @@ fn check_neither<D: BlockDevice>(
 #[test]
 fn an_entry_is_written_in_its_place(rt: HostRuntime) -> Result<(), Fail> {
     for (number, from) in PLACES {
-        let mut image = image(rt.alloc(), false)?;
+        let mut image = sevens(rt.alloc(), false)?;
         assert_eq!(rt;
             write_entry(&mut image, number, &NINES, &mut [0; 1024]),
             Ok(())
@@ -76,7 +73,7 @@ fn an_entry_is_written_in_its_place(rt: HostRuntime) -> Result<(), Fail> {
 
 #[test]
 fn no_entry_behind_the_last_block(rt: HostRuntime) -> Result<(), Fail> {
-    let mut image = image(rt.alloc(), false)?;
+    let mut image = sevens(rt.alloc(), false)?;
     check_entry(&rt, &image, 116, [7; 26])?;
     for number in [117, 118, 4294967295] {
         check_neither(&rt, &mut image, number, &mut [0; 1024], Refusal::OutOfRange)?;
@@ -86,7 +83,7 @@ fn no_entry_behind_the_last_block(rt: HostRuntime) -> Result<(), Fail> {
 
 #[test]
 fn a_work_block_of_another_length(rt: HostRuntime) -> Result<(), Fail> {
-    let mut image = image(rt.alloc(), false)?;
+    let mut image = sevens(rt.alloc(), false)?;
     check_neither(&rt, &mut image, 0, &mut [0; 0], Refusal::OutOfRange)?;
     check_neither(&rt, &mut image, 0, &mut [0; 1023], Refusal::OutOfRange)?;
     check_neither(&rt, &mut image, 0, &mut [0; 1025], Refusal::OutOfRange)?;
@@ -95,7 +92,7 @@ fn a_work_block_of_another_length(rt: HostRuntime) -> Result<(), Fail> {
 
 #[test]
 fn a_protected_image_is_read_and_not_written(rt: HostRuntime) -> Result<(), Fail> {
-    let mut image = image(rt.alloc(), true)?;
+    let mut image = sevens(rt.alloc(), true)?;
     check_entry(&rt, &image, 0, [7; 26])?;
     assert_eq!(rt;
         write_entry(&mut image, 0, &NINES, &mut [0; 1024]),
@@ -104,14 +101,12 @@ fn a_protected_image_is_read_and_not_written(rt: HostRuntime) -> Result<(), Fail
     check_nines(&rt, rt.alloc(), image, 4096)
 }
 
-// Record 7 keeps the second half of block 1, so a status of 1 there makes block 1 bad.
+// One bad half makes block 1 bad.
 #[test]
 fn a_bad_block_is_told_as_the_device_tells_it(rt: HostRuntime) -> Result<(), Fail> {
-    let mut bytes = vec![in rt.alloc(); 0; 164160]?;
-    if let Some(status) = bytes.as_mut_slice().get_mut(513 * 7 + 512) {
-        *status = 1;
-    }
-    let mut disk = SectorDisk::new(bytes, false)?;
+    let heap = rt.alloc();
+    let [_, second] = BLOCK_1;
+    let mut disk = disk(heap, vec![in heap; 0; 1024]?, &[second])?;
     let refusal = Refusal::BadBlock { depth: 0, place: 1 };
     check_neither(&rt, &mut disk, 0, &mut [0; 1024], refusal)?;
     check_neither(&rt, &mut disk, 38, &mut [0; 1024], refusal)?;

@@ -43,7 +43,7 @@ fn check_reply<D: BlockDevice>(
 ) -> Result<(), Fail> {
     if let Ok(Some(found)) = reply {
         let entry = read_entry(device, found.number, &mut [0; 1024])?;
-        assert!(rt; entry.bytes == found.entry.bytes);
+        assert_eq!(rt; found.entry, entry);
     }
     let number = reply.map(|found| found.map(|found| found.number));
     assert_eq!(rt; number, expected);

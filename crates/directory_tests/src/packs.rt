@@ -42,7 +42,11 @@ pub(crate) fn change_all(bytes: &mut [u8], changes: &[Change]) {
 }
 
 pub(crate) fn change(bytes: &mut [u8], (entry, at, count, value): Change) {
-    let from = place_of(entry).saturating_add(at);
+    fill(bytes, place_of(entry).saturating_add(at), count, value);
+}
+
+// So many bytes from one on become that value.
+pub(crate) fn fill(bytes: &mut [u8], from: usize, count: usize, value: u8) {
     for byte in bytes.iter_mut().skip(from).take(count) {
         *byte = value;
     }
