@@ -1,12 +1,12 @@
 // The fields of an entry, read from their places in its 26 bytes. One method for each, and not one over a trait of
 // fields: place, type and name differ in each, and such a trait would state all three again beside the method.
 ghost use Rattle.std.specs.Prelude.{◌≡◌, ◌*◌, ◌%◌};
-ghost use Rattle.entry.specs.Fields.{attributes_of, check_bytes, check_of, date_of, directory_of, entry_in, first_of, last_of, name_of, put_in, room_of, size_of, used_of};
+ghost use Rattle.entry.specs.Fields.{attributes_of, bit, check_bytes, check_of, date_of, directory_of, entry_in, first_of, last_of, name_of, put_in, room_of, size_of, used_of};
 ghost use Rattle.entry.specs.Lengths.{length_of};
 ghost use Rattle.entry.specs.Stamps.{stamp_of};
 ghost use Rattle.std.specs.Str.{bytes_eq};
 
-use crate::attributes::Attributes;
+use crate::attributes::{Attribute, Attributes};
 use crate::length::{BLOCK, length_of};
 use crate::numbers::array_at;
 use crate::stamp::{Stamp, read_stamp};
@@ -65,6 +65,20 @@ impl Entry {
         Attributes {
             byte: self.bytes[12],
         }
+    }
+
+    // Whether the entry is of a deleted file. In the volume's entry the bit means something else.
+    pub fn is_deleted(&self) -> bool
+        ensures { result ≡ bit 2 (attributes_of self.now.bytes) }
+    {
+        self.attributes().has(Attribute::Deleted)
+    }
+
+    // Whether it is the BLOCKS LEFT entry, with which a directory ends. In the volume's entry the bit means something else.
+    pub fn is_blocks_left(&self) -> bool
+        ensures { result ≡ bit 0 (attributes_of self.now.bytes) }
+    {
+        self.attributes().has(Attribute::BlocksLeft)
     }
 
     // The first of the blocks that are the file's.

@@ -5,7 +5,6 @@ ghost use Rattle.entry.specs.Kinds.{kind_of, listed};
 ghost use Rattle.names.specs.Names.{characters as characters_of};
 ghost use Rattle.std.specs.Option.{option_map};
 
-use crate::attributes::Attribute;
 use crate::fields::{Entry, place_of};
 use crate::length::BLOCK;
 use names::{FIELD, characters};
@@ -33,12 +32,12 @@ pub fn kind_of(block: &[u8; BLOCK], number: u32) -> Option<Kind<'_>>
     ensures { option_map listed result ≡ kind_of block.now number }
 {
     let name = name_in(block, number);
-    let attributes = Entry::from_block(block, number).attributes();
+    let entry = Entry::from_block(block, number);
     match number {
         0 => Some(Kind::Volume(name)),
         1 | 2 => None,
-        _ if attributes.has(Attribute::BlocksLeft) => Some(Kind::BlocksLeft(name)),
-        _ if attributes.has(Attribute::Deleted) => Some(Kind::Deleted(name)),
+        _ if entry.is_blocks_left() => Some(Kind::BlocksLeft(name)),
+        _ if entry.is_deleted() => Some(Kind::Deleted(name)),
         _ => Some(Kind::Live(name)),
     }
 }

@@ -1,8 +1,9 @@
 // The three bytes that an entry holds of a date: year less 1900, month, day; three zeros for none.
-ghost use Rattle.std.specs.Prelude.{◌≡◌};
-ghost use Rattle.entry.specs.Stamps.{date_bytes, stamp_of};
+ghost use Rattle.std.specs.Prelude.{◌≡◌, Some};
+ghost use Rattle.entry.specs.Stamps.{date_bytes, stamp_of, stamp_text};
 
 use crate::date::Date;
+use std::fmt;
 
 // A date as an entry has it. Other systems may have written any bytes, so it need not be a calendar day.
 #[derive(Clone, Copy, PartialEq, Eq, Debug)]
@@ -10,6 +11,15 @@ pub struct Stamp {
     pub year: u16,
     pub month: u8,
     pub day: u8,
+}
+
+impl fmt::Display for Stamp {
+    ghost output = { λ stamp. Some (stamp_text stamp) };
+
+    fn fmt<W: fmt::Write>(&self, f: &mut fmt::Formatter<W>) -> fmt::Result {
+        let Stamp { year, month, day } = *self;
+        write!(f, "{year}-{month:02}-{day:02}")
+    }
 }
 
 // What an entry holds of the unit's date.

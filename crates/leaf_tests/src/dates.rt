@@ -72,3 +72,12 @@ fn a_date_is_read_whatever_it_is(rt: HostRuntime) {
         assert_eq!(rt; read_stamp([years, month, day]), Some(stamp));
     }
 }
+
+#[test]
+fn a_stamp_is_shown_as_year_month_and_day(rt: HostRuntime) -> Result<(), Fail> {
+    for (year, month, day, text) in [(1984, 2, 29, "1984-02-29"), (2155, 113, 0, "2155-113-00")] {
+        let stamp = Stamp { year, month, day };
+        assert!(rt; stamp.to_string(rt.alloc())?.as_str() == text);
+    }
+    Ok(())
+}

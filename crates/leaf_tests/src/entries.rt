@@ -88,6 +88,23 @@ fn fields_with_their_high_bytes_set(rt: HostRuntime) {
 }
 
 #[test]
+fn deleted_and_blocks_left_are_a_bit_each(rt: HostRuntime) {
+    for (byte, deleted, blocks_left) in [
+        (0x00, false, false),
+        (0x10, false, false),
+        (0x14, true, false),
+        (0x01, false, true),
+        (0x05, true, true),
+        (0xfa, false, false),
+    ] {
+        let mut e = counting();
+        e.set_attributes(Attributes { byte });
+        assert_eq!(rt; e.is_deleted(), deleted);
+        assert_eq!(rt; e.is_blocks_left(), blocks_left);
+    }
+}
+
+#[test]
 fn writing_the_fields_of_a_file(rt: HostRuntime) {
     let mut e = Entry {
         bytes: [0xee; ENTRY],
