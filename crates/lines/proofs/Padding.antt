@@ -14,7 +14,7 @@ use Rattle.std.proofs.lemmas.Str.Ascii.{IsAscii-nil, IsAscii-cons, IsAscii-from_
 use Rattle.names.specs.Names.{printable}
 use Rattle.entry.specs.Fields.{bit}
 use Rattle.lines.specs.Rows.{state_text}
-use Rattle.lines.specs.Texts.{escaped, escaped_byte, hex_byte, hex_digit, left, right, two}
+use Rattle.lines.specs.Texts.{escaped, escaped_byte, hex_byte, hex_digit, left, right}
 
 repeat-one : (n c : ℕ) → repeat n (c ∷ []) ≡ replicate n c
 repeat-one zero c = refl
@@ -30,16 +30,6 @@ none-left n = omega arith
 pub number-right : (w n : ℕ) → padded_integral (format_spec 32 3 0 w (2 ^ 64 - 1)) false [] (decimal n) ≡ right w (decimal n)
 unfolding padded_integral char_count lib.Utf8.encode
 number-right w n = simp (none-more, none-left, append-nil) (ap (λ cs. cs ++ decimal n) (repeat-one (w - length (decimal n)) 32))
-
--- a number in two digits
-pub number-two : (n : ℕ) → n < 256 → padded_integral (format_spec 32 0 4 2 (2 ^ 64 - 1)) false [] (decimal n) ≡ two n
-unfolding padded_integral char_count
-number-two n small = elim (cases_lt n 10) [
-  | inl one ↦ rw (decimal_digit n one, lt-ltb n 10 one) refl
-  | inr more ↦
-      let long : 2 - length (decimal n) ≡ 0 = omega (arith, ap length (decimal_step n more (omega arith)), length-append (decimal (n / 10)) ((48 + n % 10) ∷ []), decimal_nonempty (n / 10) (omega arith)) in
-      rw (le-ltb n 10 more) (simp (none-more, long, append-nil))
-]
 
 -- a byte in hexadecimal
 pub hexed : {E : Type 0} (r : Result (Unit {0}) E) (out after : List ℕ) (b : ℕ) (d s : _) → b < 256 → digits_output d ≡ Some (digits 16 true b)
@@ -78,9 +68,6 @@ pub number-column : (w n m : ℕ) (s : _) → 0 < w → s ≡ format_spec 32 3 0
 number-column w n m s p e f =
     let styled : styled_decimal (format_spec 32 3 0 w (2 ^ 64 - 1)) n ≡ right w (decimal n) = rw (ne_eqb w 0 (omega arith)) (number-right w n) in
     ap (λ o. styled_decimal o n) e ∙ styled ∙ ap (λ k. right w (decimal k)) f
-
-pub two-digits : (n m : ℕ) (s : _) → s ≡ format_spec 32 0 4 2 (2 ^ 64 - 1) → n < 256 → n ≡ m → styled_decimal s n ≡ two m
-two-digits n m s e small f = ap (λ o. styled_decimal o n) e ∙ number-two n small ∙ ap two f
 
 pub left-column : (w : ℕ) (text shown : List ℕ) (s : _) → 0 < w → s ≡ format_spec 32 1 0 w (2 ^ 64 - 1) → text ≡ shown → IsAscii shown → length text < 2 ^ 64
     → styled_text s text ≡ left w shown

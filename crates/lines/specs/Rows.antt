@@ -7,9 +7,9 @@ use Rattle.std.specs.Prelude.{ℕ, ◌-◌, cond, List, ◌++◌, length, drop, 
 use Rattle.names.specs.Names.{before_last, characters}
 use Rattle.entry.specs.Fields.{attributes_of, bit, date_of, first_of, last_of, name_of, room_of, used_of}
 use Rattle.entry.specs.Lengths.{length_of}
-use Rattle.entry.specs.Stamps.{stamp_of}
+use Rattle.entry.specs.Stamps.{stamp_of, stamp_text}
 use Rattle.entry.specs.declared.stamp.Stamp.{Stamp}
-use Rattle.lines.specs.Texts.{escaped, left, right, two}
+use Rattle.lines.specs.Texts.{escaped, left, right}
 
 abbrev pub flag : ℕ → ℕ → List ℕ → List ℕ
 flag k byte letter = cond (bit k byte) letter (codes "-")
@@ -31,7 +31,7 @@ state_text attributes = cond (bit 2 attributes) (codes "deleted") (codes "live")
 
 abbrev pub date_text : Option Stamp → List ℕ
 date_text None = codes "-"
-date_text (Some s) = decimal s.year ++ (codes "-" ++ (two s.month ++ (codes "-" ++ two s.day)))
+date_text (Some s) = stamp_text s
 
 abbrev pub or_dash : Option ℕ → List ℕ
 or_dash None = codes "-"

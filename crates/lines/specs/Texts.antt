@@ -1,7 +1,6 @@
 -- Pieces of text that the commands print. Assumes nothing.
 --   escaped   bytes of a name as people can read them
 --   left      a text with spaces behind it, up to a width; right: with spaces before it
---   two       a number in at least two digits
 --   counted   so many of a thing, as `1 file` and `2 files`
 use Rattle.std.specs.Prelude.{ℕ, ◌+◌, ◌-◌, ◌/◌, ◌%◌, cond, List, [], ◌∷◌, ◌++◌, length, replicate, codes, decimal, ◌==◌, nat_lt}
 use Rattle.std.specs.List.{flat_map}
@@ -30,9 +29,6 @@ left width text = text ++ spaces (width - length text)
 
 abbrev pub right : ℕ → List ℕ → List ℕ
 right width text = spaces (width - length text) ++ text
-
-abbrev pub two : ℕ → List ℕ
-two n = cond (nat_lt n 10) (codes "0") [] ++ decimal n
 
 abbrev pub counted : ℕ → List ℕ → List ℕ
 counted n thing = decimal n ++ (codes " " ++ (thing ++ cond (n == 1) [] (codes "s")))

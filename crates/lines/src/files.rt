@@ -60,11 +60,10 @@ fn state_text(attributes: Attributes) -> &'static str
 pub fn date_text(heap: Global, stamp: Option<Stamp>) -> Result<String, AllocError>
     ensures { IfOk result (λ t. string_bytes t ≡ date_text stamp) }
 {
-    let Some(stamp) = stamp else {
-        return String::from_str(heap, "-");
-    };
-    let Stamp { year, month, day } = stamp;
-    format!(in heap; "{year}-{month:02}-{day:02}")
+    match stamp {
+        Some(stamp) => format!(in heap; "{stamp}"),
+        None => String::from_str(heap, "-"),
+    }
 }
 
 // The length of a live file; a deleted one has none to speak of.
@@ -72,12 +71,9 @@ fn length_text(heap: Global, entry: &Entry) -> Result<String, AllocError>
     ensures value { IfOk result (λ t. string_bytes t ≡ length_text entry.now.bytes) }
     ensures ascii { IfOk result (λ t. IsAscii (string_bytes t)) }
 {
-    if entry.attributes().has(Attribute::Deleted) {
-        return String::from_str(heap, "-");
-    }
     match entry.length() {
-        Some(length) => format!(in heap; "{length}"),
-        None => String::from_str(heap, "-"),
+        Some(length) if !entry.is_deleted() => format!(in heap; "{length}"),
+        _ => String::from_str(heap, "-"),
     }
 }
 
