@@ -1,16 +1,12 @@
 -- What a block that was read or written through a work block tells of the entry in it. Assumes nothing.
-use Rattle.std.proofs.Common.{◌≡◌, ℕ, ◌<◌, Bool, true, false, cond, ◌&&◌, eqb, ltb, List, length, Some, None, Ok, Err, Option, Result, sym, refl, ap, ◌∙◌, ap₂, arith}
+use Rattle.std.proofs.Common.{◌≡◌, ℕ, ◌<◌, Bool, true, false, cond, ◌&&◌, eqb, ltb, List, length, Some, None, Ok, Err, Option, Result, sym, refl, ap, ◌∙◌}
 use Rattle.std.proofs.lemmas.Bool.{and_parts, cond-false, eqb-true, ltb-true, ne_eqb}
-use Rattle.std.specs.Option.{option_or}
 use Rattle.std.specs.Prelude.{IsErrAnd}
 use Rattle.std.proofs.lemmas.Result.{err_from_is_err_and}
 use Rattle.refusal.specs.declared.Refusal.{Refusal}
-use Rattle.blocks.specs.Devices.{Device, block_at, in_range, mark_at, mark_fault, outcome, read_fault, read_out, refusal_of, size_of, write_fault, written}
+use Rattle.blocks.specs.Devices.{Device, block_at, in_range, mark_at, mark_fault, outcome, read_fault, read_out, refusal_of, size_of}
 use Rattle.blocks.specs.declared.faults.Fault.{Fault}
 use Rattle.blocks.specs.declared.faults.Fault.TheVariants.{OutOfRange}
-use Rattle.entry.specs.Fields.{entry_in, put_in}
-use Rattle.entry.specs.declared.fields.Entry.{Entry}
-use Rattle.directory.specs.Entries.{entry_at, entry_fault, entry_or, entry_read, holder_of, put_unless}
 
 granted : (o : Option Fault) (done : Unit {0}) → Ok done ≡ outcome o → o ≡ None
 granted None done h = refl

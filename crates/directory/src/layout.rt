@@ -4,8 +4,7 @@ ghost use Rattle.directory.specs.Judgements.{file_holds, has_etx, is_placed, lat
 ghost use Rattle.directory.specs.Layouts.{end_of};
 ghost use Rattle.directory.specs.Seen.{head_fault};
 
-use crate::lookups::is_blocks_left;
-use entry::{Attribute, BLOCK, Entry};
+use entry::{BLOCK, Entry};
 use names::ETX;
 
 // Whether the volume's entry is one of a device of so many blocks.
@@ -38,8 +37,7 @@ fn file_holds(entry: &Entry) -> bool
     ensures { result ≡ file_holds entry.now.bytes }
 {
     has_etx(entry.name_field())
-        && (entry.attributes().has(Attribute::Deleted)
-            || entry.used() <= entry.room() && entry.length().is_some())
+        && (entry.is_deleted() || entry.used() <= entry.room() && entry.length().is_some())
 }
 
 // The block behind an entry's room.
@@ -56,7 +54,7 @@ pub(crate) fn later_holds(entry: &Entry, blocks: u32, end: u64) -> bool
     if u64::from(entry.first_block()) != end {
         return false;
     }
-    if is_blocks_left(entry) {
+    if entry.is_blocks_left() {
         end_of(entry) == u64::from(blocks)
     } else {
         file_holds(entry)

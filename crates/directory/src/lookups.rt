@@ -1,10 +1,10 @@
 // The one lookup: the first live file of a directory that a key says yes to.
 ghost use Rattle.std.specs.Prelude.{◌≡◌, ℕ, Bool, List, length};
 ghost use Rattle.directory.specs.Entries.{WorkBlock};
-ghost use Rattle.directory.specs.Lookups.{LookupLaw, is_blocks_left, is_match, lookup_reply};
+ghost use Rattle.directory.specs.Lookups.{LookupLaw, is_match, lookup_reply};
 
 use blocks::BlockDevice;
-use entry::{Attribute, BLOCK, ENTRIES, Entry};
+use entry::{BLOCK, ENTRIES, Entry};
 use refusal::Refusal;
 
 // What a file can be looked for by: it says yes or no to an entry, of which it sees all 26 bytes.
@@ -22,16 +22,10 @@ pub struct Found {
     pub entry: Entry,
 }
 
-pub(crate) fn is_blocks_left(entry: &Entry) -> bool
-    ensures { result ≡ is_blocks_left entry.now.bytes }
-{
-    entry.attributes().has(Attribute::BlocksLeft)
-}
-
 fn is_match<K: Key>(key: &K, entry: &Entry) -> bool
     ensures { result ≡ is_match (K.Key.meaning key.now) entry.now.bytes }
 {
-    !entry.attributes().has(Attribute::Deleted) && key.fits(entry)
+    !entry.is_deleted() && key.fits(entry)
 }
 
 // Searches a directory of so many blocks for the first live file that the key says yes to. Each block is read into the
@@ -55,7 +49,7 @@ pub fn lookup<D: BlockDevice, K: Key>(
         let first = (ENTRIES * (block - 1)).max(3);
         for number in first..ENTRIES * block {
             let entry = Entry::from_block(held, number);
-            if is_blocks_left(&entry) {
+            if entry.is_blocks_left() {
                 return Ok(None);
             }
             if is_match(key, &entry) {

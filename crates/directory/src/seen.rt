@@ -4,7 +4,6 @@ ghost use Rattle.directory.specs.Seen.{seen_after, seen_from, told};
 
 use crate::judgement::{Counts, PER_BLOCK, Pack};
 use crate::layout::{end_of, later_holds};
-use crate::lookups::is_blocks_left;
 use entry::{BLOCK, Entry};
 use refusal::Refusal;
 use std::ops::Range;
@@ -34,7 +33,7 @@ impl Seen {
         }
         let holds = later_holds(entry, self.counts.blocks, self.end);
         self.fault = self.fault.or((!holds).then_some(number));
-        self.left = is_blocks_left(entry).then_some(number);
+        self.left = entry.is_blocks_left().then_some(number);
         self.end = end_of(entry);
         self.room = entry.room();
     }
