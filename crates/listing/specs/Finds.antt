@@ -25,10 +25,10 @@ abbrev pub named : Bool → (List ℕ → List ℕ → Bool) → List ℕ → �
 named kept fits bytes left given = cond kept (Ok (first_that (live fits given) bytes 3 (left - 3))) (Err BadName)
 
 abbrev pub live_whole : List ℕ → List ℕ → Bool
-live_whole name bytes = not (is_deleted bytes) && fits_whole name (name_of bytes)
+live_whole name bytes = live fits_whole name bytes
 
 abbrev pub live_stem : List ℕ → List ℕ → Bool
-live_stem stem bytes = not (is_deleted bytes) && fits_stem stem (name_of bytes)
+live_stem stem bytes = live fits_stem stem bytes
 
 abbrev pub by_whole : List ℕ → ℕ → List ℕ → Option ℕ
 by_whole bytes left given = cond (is_whole given) (first_that (live_whole given) bytes 3 (left - 3)) None

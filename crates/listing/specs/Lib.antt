@@ -1,5 +1,6 @@
 pub mod Answered
 pub mod Catalogues
+pub mod Failures
 pub mod Finds
 pub mod Loads
 pub mod Walked

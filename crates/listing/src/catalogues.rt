@@ -2,14 +2,14 @@
 ghost use Rattle.std.specs.Prelude.{◌≡◌, ◌-◌, IfOk, string_bytes};
 ghost use Rattle.listing.specs.Catalogues.{catalogue_text, catalogued, count_that, dated_text, left_text, rows_text, summary_text, volume_text};
 ghost use Rattle.listing.specs.Answered.{Answers};
-ghost use Rattle.listing.specs.Walks.{is_deleted as is_deleted_of};
+ghost use Rattle.listing.specs.Walks.{is_deleted};
 
 use crate::failure::Failure;
-use crate::files::{Files, is_deleted};
+use crate::files::Files;
 use crate::load::load;
 use blocks::BlockDevice;
 use entry::{Entry, Stamp};
-use lines::{HEADINGS, counted, date_text, escaped, row};
+use lines::{HEADINGS, counted, escaped, row};
 use names::characters;
 use std::alloc::{AllocError, Global};
 
@@ -30,12 +30,13 @@ impl Files {
 
     // How many of the files are deleted.
     fn count_deleted(&self) -> u32
-        ensures { result ≡ count_that is_deleted_of (bytes_of self.now.directory) 3 (self.now.left - 3) }
+        ensures { result ≡ count_that is_deleted (bytes_of self.now.directory) 3 (self.now.left - 3) }
     {
-        // A loop and not `filter` and `count`, which count in `usize` and leave the sum unproved.
+        // A loop: `filter` and `count` give a `usize`, of which it is not known how it stands to `count_that` nor that it
+        // fits the `u32` that is printed.
         let mut count = 0;
         for number in 3..self.left {
-            if is_deleted(&self.directory.entry(number)) {
+            if self.directory.entry(number).is_deleted() {
                 count += 1;
             }
         }
@@ -67,10 +68,7 @@ fn dated_text(heap: Global, stamp: Option<Stamp>) -> Result<String, AllocError>
     ensures { IfOk result (λ t. string_bytes t ≡ dated_text stamp) }
 {
     match stamp {
-        Some(_) => {
-            let date = date_text(heap, stamp)?;
-            format!(in heap; "dated {date}")
-        }
+        Some(stamp) => format!(in heap; "dated {stamp}"),
         None => String::from_str(heap, "no date"),
     }
 }

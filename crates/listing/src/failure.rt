@@ -1,10 +1,12 @@
 // Why a command printed nothing.
 ghost use Rattle.listing.specs.declared.failure.Failure.TheVariants.{Memory, Refused as Refused'};
-ghost use Rattle.std.specs.Prelude.{◌≡◌};
+ghost use Rattle.listing.specs.Failures.{reason};
+ghost use Rattle.std.specs.Prelude.{◌≡◌, Some};
 
 use blocks::Rejected;
 use refusal::Refusal;
 use std::alloc::{AllocError, AllocFailed};
+use std::fmt;
 
 #[derive(Clone, Copy, PartialEq, Eq, Debug)]
 pub enum Failure {
@@ -12,6 +14,17 @@ pub enum Failure {
     Memory,
     // what was asked is refused
     Refused(Refusal),
+}
+
+impl fmt::Display for Failure {
+    ghost output = { λ failure. Some (reason failure) };
+
+    fn fmt<W: fmt::Write>(&self, f: &mut fmt::Formatter<W>) -> fmt::Result {
+        match self {
+            Failure::Memory => f.write_str("there is not enough memory"),
+            Failure::Refused(refusal) => write!(f, "{refusal}"),
+        }
+    }
 }
 
 impl From<AllocError> for Failure {

@@ -1,9 +1,9 @@
 // The walk through a directory, and the files that it finds.
 ghost use Rattle.std.specs.Prelude.{◌≡◌, ◌*◌, ◌<◌, ◌≤◌, length, IfOk};
-ghost use Rattle.listing.specs.Walks.{directory_walked, is_deleted as is_deleted_of};
+ghost use Rattle.listing.specs.Walks.{directory_walked};
 
 use crate::directory::Directory;
-use entry::{Attribute, ENTRIES, Entry};
+use entry::ENTRIES;
 use refusal::Refusal;
 
 // A directory that was walked: its files are the entries from 3 up to `left`, the BLOCKS LEFT entry.
@@ -15,13 +15,6 @@ pub(crate) struct Files {
     ghost to: { left < 39 * length directory.blocks.items },
 }
 
-// Whether the entry is of a deleted file.
-pub(crate) fn is_deleted(entry: &Entry) -> bool
-    ensures { result ≡ is_deleted_of entry.now.bytes }
-{
-    entry.attributes().has(Attribute::Deleted)
-}
-
 impl Files {
     ghost use Rattle.listing.specs.Walked.{bytes_of, walked};
 
@@ -31,15 +24,14 @@ impl Files {
         ensures kept { IfOk result (λ files. files.directory ≡ directory) }
     {
         let end = ENTRIES * directory.size();
-        let Some(left) = directory.first(3, end, |entry| {
-            entry.attributes().has(Attribute::BlocksLeft)
-        }) else {
+        // Not `ok_or` and `?`, under which the answer where there is no such entry was left unproved.
+        let Some(left) = directory.first(3, end, |entry| entry.is_blocks_left()) else {
             return Err(Refusal::BrokenLayout { entry: end as u16 });
         };
         match directory.first(
             3,
             left,
-            |entry| !is_deleted(entry) && entry.length().is_none(),
+            |entry| !entry.is_deleted() && entry.length().is_none(),
         ) {
             None => Ok(Files { directory, left }),
             Some(entry) => Err(Refusal::BrokenLayout {

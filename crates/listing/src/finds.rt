@@ -1,12 +1,10 @@
 // Finding a live file of a pack by its whole name or by its stem.
-ghost use Rattle.std.specs.Prelude.{◌≡◌, ◌<◌, IfSome, IfOk, Some, Ok, Err, if◌then◌else◌};
-ghost use Rattle.names.specs.Names.{is_stem, is_whole};
-ghost use Rattle.refusal.specs.declared.Refusal.TheVariants.{BadName};
+ghost use Rattle.std.specs.Prelude.{◌≡◌, ◌<◌, IfSome, IfOk, Some};
 ghost use Rattle.listing.specs.Answered.{Answers};
 ghost use Rattle.listing.specs.Finds.{fit_text, found_text, looked_up, match_text, named};
 
 use crate::failure::Failure;
-use crate::files::{Files, is_deleted};
+use crate::files::Files;
 use crate::load::load;
 use blocks::BlockDevice;
 use lines::row;
@@ -40,7 +38,7 @@ impl Files {
         let name = Name::<R>::new(given)?;
         Ok(
             self.directory.first(3, self.left, |entry| {
-                !is_deleted(entry) && name.fits(entry.name_field())
+                !entry.is_deleted() && name.fits(entry.name_field())
             }),
         )
     }
@@ -57,6 +55,7 @@ impl Files {
                 fit: Fit::Whole,
             });
         }
+        // Not `or` and `?`, under which the refusal where neither rule is kept was left unproved.
         match (whole, self.named::<StemRule>(given)) {
             (_, Ok(Some(number))) => Ok(Match {
                 number,
@@ -85,7 +84,7 @@ impl fmt::Display for Fit {
             Fit::Whole => "Found by its whole name.",
             Fit::Stem => "Found by its stem; no live file has that whole name.",
         };
-        write!(f, "{words}")
+        f.write_str(words)
     }
 }
 

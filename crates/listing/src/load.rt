@@ -19,8 +19,8 @@ fn read_block<D: BlockDevice>(device: &D, block: u32) -> Result<[u8; BLOCK], Ref
     Ok(buffer)
 }
 
-// Whether the volume's entry can be the first of a directory on a device of so many blocks. The crate `directory` tests
-// it alike: one function for both would have to stand in `entry`, which reads fields and knows no layout.
+// Whether the volume's entry can be the first of a directory on a device of so many blocks. Not the function of the crate
+// `directory`, which also tests the size of the device, and on which this crate does not stand.
 fn volume_holds(blocks: u32, volume: &Entry) -> bool
     ensures { result ≡ volume_holds blocks volume.now.bytes }
 {
