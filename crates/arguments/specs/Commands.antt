@@ -7,7 +7,6 @@
 --   complaint_text   why nothing is printed of a file, in words
 use Rattle.std.specs.Prelude.{ℕ, cond, ◌||◌, List, [], ◌∷◌, ◌++◌, Ok, Err, codes, Result}
 use Rattle.std.specs.Str.{bytes_eq}
-use Rattle.refusal.specs.Refusals.{line}
 use Rattle.arguments.specs.declared.commands.Command.{Command}
 use Rattle.arguments.specs.declared.commands.Command.TheVariants.{Help, Catalogue, Find}
 use Rattle.arguments.specs.declared.commands.Medium.{Medium}
@@ -15,7 +14,7 @@ use Rattle.arguments.specs.declared.commands.Medium.TheVariants.{Image, Disk}
 use Rattle.arguments.specs.declared.commands.Misuse.{Misuse}
 use Rattle.arguments.specs.declared.commands.Misuse.TheVariants.{UnknownCommand, CatalogueForm, FindForm}
 use Rattle.listing.specs.declared.failure.Failure.{Failure}
-use Rattle.listing.specs.declared.failure.Failure.TheVariants.{Memory, Refused}
+use Rattle.listing.specs.Failures.{reason}
 
 pub data Asked : Type 0 where
   help : Asked
@@ -76,10 +75,6 @@ abbrev pub misuse_text : Misuse → List ℕ
 misuse_text UnknownCommand = codes "there is no such command; the commands are catalogue and find, and pack --help explains them"
 misuse_text CatalogueForm = codes "a catalogue is of one file: pack catalogue [--disk] FILE"
 misuse_text FindForm = codes "a find takes a file and a name: pack find [--disk] FILE NAME"
-
-abbrev pub reason : Failure → List ℕ
-reason Memory = codes "there is not enough memory"
-reason (Refused refusal) = line refusal
 
 abbrev pub complaint_text : List ℕ → Failure → List ℕ
 complaint_text path failure = codes "pack: " ++ (path ++ (codes ": " ++ reason failure))

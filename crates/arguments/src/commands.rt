@@ -14,7 +14,7 @@ pub enum Medium {
 }
 
 // What the arguments ask for.
-#[derive(Clone, Copy)]
+#[derive(Clone, Copy, PartialEq, Eq, Debug)]
 pub enum Command<'a> {
     Help,
     Catalogue {
@@ -55,8 +55,7 @@ impl fmt::Display for Misuse {
     ghost output = { λ misuse. Some (misuse_text misuse) };
 
     fn fmt<W: fmt::Write>(&self, f: &mut fmt::Formatter<W>) -> fmt::Result {
-        let words = self.words();
-        write!(f, "{words}")
+        f.write_str(self.words())
     }
 }
 
@@ -131,8 +130,5 @@ D deleted, X execute protected, B the BLOCKS LEFT entry.
 pub fn complaint(heap: Global, path: &str, failure: Failure) -> Result<String, AllocError>
     ensures { IfOk result (λ t. string_bytes t ≡ complaint_text path.now failure) }
 {
-    match failure {
-        Failure::Memory => format!(in heap; "pack: {path}: there is not enough memory"),
-        Failure::Refused(refusal) => format!(in heap; "pack: {path}: {refusal}"),
-    }
+    format!(in heap; "pack: {path}: {failure}")
 }

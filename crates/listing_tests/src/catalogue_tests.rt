@@ -10,19 +10,10 @@ fn a_catalogue(rt: HostRuntime) -> Result<(), Fail> {
     let image = image(
         heap,
         8,
-        &[VOLUME, BOOT, DIRECTORY, LETTER_H, LOG_A, BLOCKS_LEFT],
+        &TWO_FILES,
     )?;
     let text = catalogue(heap, &image)?;
-    assert!(rt;
-        text.as_str()
-            == "Volume TEST: 8 blocks, 1 directory block, dated 1984-02-29.
-entry  name          state    attributes  first   room    length  date
-    3  LETTER     H  live     ---U----        2      1        10  -
-    4  LOG        A  live     ---U----        3      2      1500  1985-03-05
-Blocks left: 3 from block 5.
-Read 1 directory block and found 2 files, 0 of them deleted.
-"
-    );
+    assert!(rt; text.as_str() == TWO_FILES_TEXT);
     Ok(())
 }
 

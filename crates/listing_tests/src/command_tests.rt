@@ -6,20 +6,19 @@ use std::alloc::{AllocError, Global};
 use std::test::Fail;
 
 fn words(heap: Global, texts: &[&str]) -> Result<Vec<String>, AllocError> {
-    let mut args = Vec::new(heap);
-    for text in texts {
-        args.push(String::from_str(heap, text)?)?;
-    }
-    Ok(args)
+    texts
+        .iter()
+        .map(|text| -> Result<String, AllocError> { String::from_str(heap, text) })
+        .try_collect(heap)
 }
 
 #[test]
 fn help(rt: HostRuntime) -> Result<(), Fail> {
     let none = Vec::new(rt.alloc());
-    assert!(rt; matches!(read_arguments(none.as_slice()), Ok(Command::Help)));
+    assert_eq!(rt; read_arguments(none.as_slice()), Ok(Command::Help));
     for word in ["--help", "-h", "help"] {
         let args = words(rt.alloc(), &[word])?;
-        assert!(rt; matches!(read_arguments(args.as_slice()), Ok(Command::Help)));
+        assert_eq!(rt; read_arguments(args.as_slice()), Ok(Command::Help));
     }
     Ok(())
 }
@@ -27,18 +26,22 @@ fn help(rt: HostRuntime) -> Result<(), Fail> {
 #[test]
 fn commands(rt: HostRuntime) -> Result<(), Fail> {
     let args = words(rt.alloc(), &["catalogue", "a.pack"])?;
-    let Ok(Command::Catalogue { medium, path }) = read_arguments(args.as_slice()) else {
-        return Err(Fail::new("a catalogue of one file"));
-    };
-    assert_eq!(rt; medium, Medium::Image);
-    assert!(rt; path == "a.pack");
+    assert_eq!(rt;
+        read_arguments(args.as_slice()),
+        Ok(Command::Catalogue {
+            medium: Medium::Image,
+            path: "a.pack",
+        })
+    );
     let args = words(rt.alloc(), &["find", "--disk", "a.disk", "LETTERH"])?;
-    let Ok(Command::Find { medium, path, name }) = read_arguments(args.as_slice()) else {
-        return Err(Fail::new("a find on a disk"));
-    };
-    assert_eq!(rt; medium, Medium::Disk);
-    assert!(rt; path == "a.disk");
-    assert!(rt; name == "LETTERH");
+    assert_eq!(rt;
+        read_arguments(args.as_slice()),
+        Ok(Command::Find {
+            medium: Medium::Disk,
+            path: "a.disk",
+            name: "LETTERH",
+        })
+    );
     Ok(())
 }
 
@@ -56,10 +59,8 @@ fn misuses(rt: HostRuntime) -> Result<(), Fail> {
         (&[""], Misuse::UnknownCommand),
     ] {
         let args = words(rt.alloc(), texts)?;
-        let Err(misuse) = read_arguments(args.as_slice()) else {
-            return Err(Fail::new("these are no command"));
-        };
-        assert_eq!(rt; misuse, expected);
+        assert_eq!(rt; read_arguments(args.as_slice()).err(), Some(expected));
+        assert!(rt; expected.to_string(rt.alloc())?.as_str() == expected.words());
     }
     Ok(())
 }

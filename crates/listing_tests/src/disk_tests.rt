@@ -11,9 +11,10 @@ use std::test::Fail;
 fn disk(heap: Global, entries: &[&[u8; 26]], place: usize, byte: u8) -> Result<SectorDisk, Fail> {
     let mut bytes = vec![in heap; 0; DISK]?;
     put_entries(&mut bytes, 513 * 2, entries);
-    if let Some(changed) = bytes.get_mut(place) {
-        *changed = byte;
-    }
+    let changed = bytes
+        .get_mut(place)
+        .ok_or_else(|| Fail::new("the place lies on the disk"))?;
+    *changed = byte;
     Ok(SectorDisk::new(bytes, false)?)
 }
 
@@ -23,21 +24,12 @@ fn a_catalogue_of_a_disk(rt: HostRuntime) -> Result<(), Fail> {
     // block 5, whose second sector is bad, holds no directory
     let disk = disk(
         heap,
-        &[VOLUME, BOOT, DIRECTORY, LETTER_H, LOG_A, BLOCKS_LEFT],
+        &TWO_FILES,
         513 * 15 + 512,
         1,
     )?;
     let text = catalogue(heap, &disk)?;
-    assert!(rt;
-        text.as_str()
-            == "Volume TEST: 8 blocks, 1 directory block, dated 1984-02-29.
-entry  name          state    attributes  first   room    length  date
-    3  LETTER     H  live     ---U----        2      1        10  -
-    4  LOG        A  live     ---U----        3      2      1500  1985-03-05
-Blocks left: 3 from block 5.
-Read 1 directory block and found 2 files, 0 of them deleted.
-"
-    );
+    assert!(rt; text.as_str() == TWO_FILES_TEXT);
     Ok(())
 }
 

@@ -23,7 +23,7 @@ fn found_by_whole_name_and_by_stem(rt: HostRuntime) -> Result<(), Fail> {
     let image = image(
         heap,
         8,
-        &[VOLUME, BOOT, DIRECTORY, LETTER_H, LOG_A, BLOCKS_LEFT],
+        &TWO_FILES,
     )?;
     for (name, expected) in [
         (&b"LETTERH"[..], LETTER_ROW),

@@ -34,6 +34,18 @@ pub(crate) const NO_LENGTH: &[u8; 26] =
 pub(crate) const BLOCKS_LEFT: &[u8; 26] =
     b"BLOCKS LEFT\x03\x01\x05\x00\x00\x00\x03\x00\x00\x00\x00\x00\x54\x02\x1d";
 
+// A pack of two live files, and its catalogue.
+pub(crate) const TWO_FILES: [&[u8; 26]; 6] =
+    [VOLUME, BOOT, DIRECTORY, LETTER_H, LOG_A, BLOCKS_LEFT];
+
+pub(crate) const TWO_FILES_TEXT: &str = "Volume TEST: 8 blocks, 1 directory block, dated 1984-02-29.
+entry  name          state    attributes  first   room    length  date
+    3  LETTER     H  live     ---U----        2      1        10  -
+    4  LOG        A  live     ---U----        3      2      1500  1985-03-05
+Blocks left: 3 from block 5.
+Read 1 directory block and found 2 files, 0 of them deleted.
+";
+
 // Puts entries one after the other over bytes, from a place on.
 pub(crate) fn put_entries(bytes: &mut [u8], place: usize, entries: &[&[u8; 26]]) {
     let values = entries.iter().flat_map(|entry| entry.iter());

@@ -11,10 +11,10 @@ use std::alloc::Global;
 use std::process::ExitCode;
 use std::{env, fs};
 
-// Says on standard error why nothing was done, and ends the program without success.
-fn refuse(rt: &HostRuntime, line: &str) -> anyhow::Result<()> {
+// Says on standard error why nothing was done. The error ends the program without success.
+fn refuse(rt: &HostRuntime, line: &str) -> anyhow::Result<anyhow::Error> {
     rt.eprintln(line)?;
-    Err(anyhow!("refused"))
+    Ok(anyhow!("refused"))
 }
 
 // Prints what a command made of a file, or says why it made nothing.
@@ -23,7 +23,7 @@ fn answer(rt: &HostRuntime, path: &str, made: Result<String, Failure>) -> anyhow
         Ok(text) => Ok(rt.print(text)?),
         Err(failure) => {
             let line = complaint(rt.alloc(), path, failure)?;
-            refuse(rt, line.as_str())
+            Err(refuse(rt, line.as_str())?)
         }
     }
 }
@@ -39,7 +39,7 @@ fn read_file(rt: &HostRuntime, path: &str) -> anyhow::Result<Vec<u8>> {
     }
 }
 
-// What is done with a pack.
+// What is done with a pack. A value and not a closure: a closure takes one type of device, and there are two.
 #[derive(Clone, Copy)]
 enum Task<'a> {
     Catalogue,
@@ -88,7 +88,7 @@ fn perform(rt: &HostRuntime) -> anyhow::Result<()> {
         Ok(command) => run(rt, command),
         Err(misuse) => {
             let line = format!(in rt.alloc(); "pack: {misuse}")?;
-            refuse(rt, line.as_str())
+            Err(refuse(rt, line.as_str())?)
         }
     }
 }
