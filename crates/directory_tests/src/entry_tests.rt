@@ -40,7 +40,10 @@ fn check_entry<D: BlockDevice>(
     number: u32,
     bytes: [u8; 26],
 ) -> Result<(), Fail> {
-    assert_eq!(rt; read_entry(device, number, &mut [0; 1024]), Ok(Entry { bytes }));
+    assert_eq!(rt;
+        read_entry(device, number, &mut [0; 1024]),
+        Ok(Entry { bytes })
+    );
     Ok(())
 }
 

@@ -271,7 +271,10 @@ fn what_is_not_judged(rt: HostRuntime) -> Result<(), Fail> {
 
 fn check_work_blocks(rt: &impl Abort, image: &Image) -> Result<(), Fail> {
     for length in [0, 1023, 1025] {
-        assert_eq!(rt; judge(image, &mut [0; 1025][..length]), Err(Refusal::OutOfRange));
+        assert_eq!(rt;
+            judge(image, &mut [0; 1025][..length]),
+            Err(Refusal::OutOfRange)
+        );
     }
     Ok(())
 }
