@@ -1,16 +1,16 @@
 -- Bytes as a device: its laws, its blocks, a write, and the bytes again. Assumes nothing.
-use Rattle.std.specs.Prelude.{◌≡◌, ℕ, zero, suc, ◌+◌, ◌*◌, ◌/◌, ◌%◌, ◌<◌, ◌≤◌, Bool, true, false, cond, ◌&&◌, ◌⊎◌, List, [], ◌++◌, map, length, take, drop, Some, None, Ok, ◌==◌, ◌≢◌, nat_le, nat_lt, slice_index, slice_index_or, refl}
+use Rattle.std.specs.Prelude.{◌≡◌, ℕ, zero, suc, ◌+◌, ◌*◌, ◌/◌, ◌%◌, ◌<◌, ◌≤◌, Bool, true, false, ◌&&◌, ◌⊎◌, List, [], ◌++◌, map, length, take, drop, None, Ok, ◌==◌, ◌≢◌, nat_le, slice_index, slice_index_or, refl}
 use Rattle.std.proofs.Common.{sym, ap, ap₂, subst, ◌∙◌, inl, inr, arith, lit<, lit≤, take-add}
 use Rattle.std.specs.List.{range_with_len, flat_map}
-use Rattle.std.proofs.lemmas.List.{drop-drop, get_or-drop, get_or_past, get_or-take, length-drop, length-take, take_all}
-use Rattle.std.proofs.lemmas.Bool.{and_parts, cases_lt, eqb-true, leb-true, ltb-true}
+use Rattle.std.proofs.lemmas.List.{drop-drop, length-drop, length-take, take_all}
+use Rattle.std.proofs.lemmas.Bool.{and_parts, cases_lt, eqb-true, leb-true}
 use Rattle.blocks.specs.Devices.{ShallowMark, ShallowTab, block_at, in_range, mark_at, mark_fault, outcome, read_fault, read_out, size_of, tab_fault, write_fault, written}
 use Rattle.blocks.specs.Images.{encoded, image_block, image_of, is_image, numbered, tab_of, tabulated}
-use Rattle.blocks.specs.declared.faults.Fault.TheVariants.{OutOfRange}
 use Rattle.blocks.specs.declared.faults.Mark.TheVariants.{Sound}
 use Rattle.blocks.specs.declared.faults.Tab.{Tab}
-use Rattle.parts.proofs.Storing.{length-stored, part-aside, part-itself}
+use Rattle.parts.proofs.Storing.{length-stored, part-aside, part-itself, part-small}
 use Rattle.parts.specs.Parts.{stored}
+use Rattle.blocks.specs.Ranges.{range-facts, read-in-range, write-in-range}
 use Rattle.blocks.specs.Tables.{get_or-tabulated, length-tabulated, tabulated-past, tabulated-set}
 
 -- what it means that bytes are an image
@@ -40,18 +40,11 @@ module _ (xs : List ℕ) (p : Bool) (whole : is_image xs ≡ true) where
       ∙ (let e : Prim.Native.Nat.min 1024 (length (drop (1024 * b) xs)) ≡ 1024 = omega (arith, length-drop (1024 * b) xs, image-end b h) in e)
 
   pub image-small : ((i : ℕ) → slice_index xs i < 256) → (b i : ℕ) → slice_index (block_at (image_of xs p) b) i < 256
-  image-small small b i = by (cases_lt b (length xs / 1024)) (cases_lt i 1024)
+  image-small small b i = by (cases_lt b (length xs / 1024))
     where
-      by : (b < length xs / 1024) ⊎ (length xs / 1024 ≤ b) → (i < 1024) ⊎ (1024 ≤ i) → slice_index (block_at (image_of xs p) b) i < 256
-      by (inl h) (inl l) =
-          subst (λ v. v < 256)
-          (sym (ap (λ x. slice_index x i) (get_or-tabulated (length xs / 1024) (image_block xs) b [] h) ∙ get_or-take 1024 (drop (1024 * b) xs) i 0 l ∙ get_or-drop (1024 * b) xs i 0))
-          (small (1024 * b + i))
-      by (inl h) (inr l) =
-          subst (λ v. v < 256)
-          (sym (ap (λ x. slice_index x i) (get_or-tabulated (length xs / 1024) (image_block xs) b [] h)
-          ∙ get_or_past (take 1024 (drop (1024 * b) xs)) i 0 (omega (arith, length-take 1024 (drop (1024 * b) xs))))) (lit< tt)
-      by (inr h) q = subst (λ v. v < 256) (sym (ap (λ x. slice_index x i) (tabulated-past (length xs / 1024) (image_block xs) b [] h))) (lit< tt)
+      by : (b < length xs / 1024) ⊎ (length xs / 1024 ≤ b) → slice_index (block_at (image_of xs p) b) i < 256
+      by (inl h) = rw (get_or-tabulated (length xs / 1024) (image_block xs) b [] h) (part-small xs (1024 * b) 1024 small i)
+      by (inr h) = rw (tabulated-past (length xs / 1024) (image_block xs) b [] h) (lit< tt)
 
 pub image-marked : (xs : List ℕ) (p : Bool) → length (image_of xs p).marks ≡ size_of (image_of xs p)
 image-marked xs p = length-tabulated (length xs / 1024) (λ _. Sound) ∙ sym (image-size xs p)
@@ -70,7 +63,7 @@ tab-shallow false = tt
 
 -- the tab lets a write pass only where it is off
 pub tab-off : (p : Bool) (t : Tab) → t ≡ tab_of p → Ok tt ≡ outcome (tab_fault t None) → p ≡ false
-tab-off true t e passed = absurd (let z = ap (λ u. outcome (tab_fault u None)) (sym e) ∙ sym passed in cc)
+tab-off true t e passed = absurd cc
 tab-off false t e passed = refl
 
 pub image-shallow : (xs : List ℕ) (p : Bool) (b : ℕ) → ShallowMark (mark_at (image_of xs p) b) × ShallowTab (image_of xs p).tab
@@ -93,29 +86,24 @@ encoded-image xs p whole =
 
 -- a read in range
 module _ (xs : List ℕ) (p : Bool) (whole : is_image xs ≡ true) (b len : ℕ) (inside : in_range (image_of xs p) b len ≡ true) where
-  pub size-and-length : (b < size_of (image_of xs p)) × (len ≡ 1024)
-  size-and-length =
-      let parts = and_parts (nat_lt b (size_of (image_of xs p))) (len == 1024) inside in
-      (ltb-true b (size_of (image_of xs p)) parts.0, eqb-true len 1024 parts.1)
-
   pub image-fits : 1024 * b + 1024 ≤ length xs
-  image-fits = image-end xs p whole b size-and-length.0
+  image-fits = image-end xs p whole b (range-facts (image_of xs p) b len inside).0
 
   granted : read_fault (image_of xs p) b len ≡ None
   granted =
-      ap (λ t. cond t (mark_fault (mark_at (image_of xs p) b)) (Some (OutOfRange b))) inside ∙ ap mark_fault (sound-everywhere (length xs / 1024) b)
+      read-in-range (image_of xs p) b len inside ∙ ap mark_fault (sound-everywhere (length xs / 1024) b)
 
   pub image-read : Ok tt ≡ outcome (read_fault (image_of xs p) b len)
   image-read = sym (ap outcome granted)
 
   pub image-filled : (n : ℕ) → n ≡ 1024 → (buffer : List ℕ) → take n (drop (1024 * b) xs) ≡ read_out (read_fault (image_of xs p) b len) (block_at (image_of xs p) b) buffer
   image-filled n e buffer =
-      ap (λ l. take l (drop (1024 * b) xs)) e ∙ sym (image-block xs p whole b size-and-length.0)
+      ap (λ l. take l (drop (1024 * b) xs)) e ∙ sym (image-block xs p whole b (range-facts (image_of xs p) b len inside).0)
       ∙ sym (ap (λ o. read_out o (block_at (image_of xs p) b) buffer) granted)
 
   pub image-written-none : p ≡ false → write_fault (image_of xs p) b len ≡ None
   image-written-none off =
-      ap (λ t. cond t (tab_fault (tab_of p) (mark_fault (mark_at (image_of xs p) b))) (Some (OutOfRange b))) inside
+      write-in-range (image_of xs p) b len inside
       ∙ ap₂ (λ t m. tab_fault t (mark_fault m)) (ap tab_of off) (sound-everywhere (length xs / 1024) b)
 
   -- the image after a write in range
@@ -123,11 +111,11 @@ module _ (xs : List ℕ) (p : Bool) (whole : is_image xs ≡ true) (b len : ℕ)
   image-after ys e off =
       let at = 1024 * b in
       let n = length xs / 1024 in
-      let wide : length ys ≡ 1024 = omega (arith, size-and-length.1) in
+      let wide : length ys ≡ 1024 = omega (arith, (range-facts (image_of xs p) b len inside).1) in
       let fits : at + length ys ≤ length xs = omega (arith, image-fits) in
       ap (λ m. numbered (m / 1024) (image_block (stored xs at ys)) (λ _. Sound) (tab_of p)) (length-stored xs at ys fits)
       ∙ ap (λ bs. record { blocks = bs; marks = tabulated n (λ _. Sound); tab = tab_of p })
-      (tabulated-set n (image_block xs) (image_block (stored xs at ys)) b ys (omega (arith, size-and-length.0, image-size xs p))
+      (tabulated-set n (image_block xs) (image_block (stored xs at ys)) b ys (omega (arith, (range-facts (image_of xs p) b len inside).0, image-size xs p))
       (ap (λ l. take l (drop at (stored xs at ys))) (sym wide) ∙ part-itself xs at ys fits)
       (λ k l other. part-aside xs at ys fits (1024 * k) 1024 (aside k (omega (arith, wide)) (cases_lt k b) other)))
       ∙ sym (ap (λ o. written o (image_of xs p) b ys) (image-written-none off))
@@ -138,5 +126,5 @@ module _ (xs : List ℕ) (p : Bool) (whole : is_image xs ≡ true) (b len : ℕ)
 
   pub image-whole : (ys : List ℕ) → length ys ≡ len → is_image (stored xs (1024 * b) ys) ≡ true
   image-whole ys e =
-      let fits : 1024 * b + length ys ≤ length xs = omega (arith, image-fits, size-and-length.1) in
+      let fits : 1024 * b + length ys ≤ length xs = omega (arith, image-fits, (range-facts (image_of xs p) b len inside).1) in
       ap (λ m. (m % 1024 == 0) && (nat_le 1 (m / 1024) && nat_le (m / 1024) 65535)) (length-stored xs (1024 * b) ys fits) ∙ whole

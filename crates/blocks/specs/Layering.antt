@@ -1,10 +1,10 @@
 -- What a layer passes up is what its meaning says. Assumes nothing.
-use Rattle.std.specs.Prelude.{◌≡◌, ℕ, zero, suc, true, cond, List, [], ◌∷◌, map, length, Some, slice_index_or, refl}
+use Rattle.std.specs.Prelude.{◌≡◌, ℕ, zero, suc, true, List, [], ◌∷◌, map, length, slice_index_or, refl}
 use Rattle.std.proofs.Common.{sym, ap, ap₂, ◌∙◌, arith}
 use Rattle.std.proofs.lemmas.List.{length-map}
 use Rattle.blocks.specs.Devices.{Device, ShallowMark, ShallowTab, in_range, mark_at, mark_fault, outcome, read_fault, read_out, tab_fault, write_fault}
+use Rattle.blocks.specs.Ranges.{read-in-range, write-in-range}
 use Rattle.blocks.specs.Layers.{deeper_mark, deeper_tab, passed_up}
-use Rattle.blocks.specs.declared.faults.Fault.TheVariants.{OutOfRange}
 use Rattle.blocks.specs.declared.faults.Mark.{Mark}
 use Rattle.blocks.specs.declared.faults.Mark.TheVariants.{Sound, Bad}
 use Rattle.blocks.specs.declared.faults.Tab.{Tab}
@@ -41,26 +41,18 @@ pass-tab (On depth) m = refl
 
 -- a layer up over a device low: block b above is block c below, and both are in range
 module _ (low up : Device) (b c len : ℕ) (above : in_range up b len ≡ true) (below : in_range low c len ≡ true) (mark : mark_at up b ≡ deeper_mark (mark_at low c)) where
-  read_low : read_fault low c len ≡ mark_fault (mark_at low c)
-  read_low = ap (λ t. cond t (mark_fault (mark_at low c)) (Some (OutOfRange c))) below
-
   read_up : read_fault up b len ≡ mark_fault (deeper_mark (mark_at low c))
-  read_up = ap (λ t. cond t (mark_fault (mark_at up b)) (Some (OutOfRange b))) above ∙ ap mark_fault mark
+  read_up = read-in-range up b len above ∙ ap mark_fault mark
 
   pub layer-read : passed_up (outcome (read_fault low c len)) ≡ outcome (read_fault up b len)
-  layer-read = ap (λ o. passed_up (outcome o)) read_low ∙ pass-mark (mark_at low c) ∙ sym (ap outcome read_up)
+  layer-read = ap (λ o. passed_up (outcome o)) (read-in-range low c len below) ∙ pass-mark (mark_at low c) ∙ sym (ap outcome read_up)
 
   pub layer-filled : (block buffer : List ℕ) → read_out (read_fault low c len) block buffer ≡ read_out (read_fault up b len) block buffer
   layer-filled block buffer =
-      ap (λ o. read_out o block buffer) read_low ∙ fill-mark (mark_at low c) block buffer ∙ sym (ap (λ o. read_out o block buffer) read_up)
-
-  pub write_low : write_fault low c len ≡ tab_fault low.tab (mark_fault (mark_at low c))
-  write_low = ap (λ t. cond t (tab_fault low.tab (mark_fault (mark_at low c))) (Some (OutOfRange c))) below
+      ap (λ o. read_out o block buffer) (read-in-range low c len below) ∙ fill-mark (mark_at low c) block buffer ∙ sym (ap (λ o. read_out o block buffer) read_up)
 
   pub write_up : up.tab ≡ deeper_tab low.tab → write_fault up b len ≡ tab_fault (deeper_tab low.tab) (mark_fault (deeper_mark (mark_at low c)))
-  write_up t =
-      ap (λ x. cond x (tab_fault up.tab (mark_fault (mark_at up b))) (Some (OutOfRange b))) above
-      ∙ ap₂ (λ x m. tab_fault x (mark_fault m)) t mark
+  write_up t = write-in-range up b len above ∙ ap₂ (λ x m. tab_fault x (mark_fault m)) t mark
 
   pub layer-write : up.tab ≡ deeper_tab low.tab → passed_up (outcome (write_fault low c len)) ≡ outcome (write_fault up b len)
-  layer-write t = ap (λ o. passed_up (outcome o)) write_low ∙ pass-tab low.tab (mark_at low c) ∙ sym (ap outcome (write_up t))
+  layer-write t = ap (λ o. passed_up (outcome o)) (write-in-range low c len below) ∙ pass-tab low.tab (mark_at low c) ∙ sym (ap outcome (write_up t))

@@ -1,5 +1,7 @@
 pub mod Devices
 pub mod Images
+pub mod Held
+pub mod Rejects
 pub mod Layers
 pub mod Imaging
 pub mod Tables

@@ -1,8 +1,8 @@
 -- Blocks and marks seen through a window, and a write through it. Assumes nothing.
-use Rattle.std.specs.Prelude.{◌≡◌, ℕ, zero, suc, ◌+◌, ◌-◌, ◌<◌, ◌≤◌, min, true, ◌&&◌, ◌⊎◌, List, [], ◌∷◌, map, length, take, drop, Some, None, Option, ◌==◌, nat_lt, slice_index, slice_index_or, slice_set, refl}
+use Rattle.std.specs.Prelude.{◌≡◌, ℕ, zero, suc, ◌+◌, ◌-◌, ◌<◌, ◌≤◌, min, true, ◌⊎◌, List, [], ◌∷◌, map, length, take, drop, Some, None, Option, ◌==◌, slice_index, slice_index_or, slice_set, refl}
 use Rattle.std.proofs.Common.{sym, ap, subst, ◌∙◌, inl, inr, arith, lit<}
 use Rattle.std.proofs.lemmas.List.{drop-set-add, get_or-drop, get_or_past, get_or-take, length-drop, length-set, length-take}
-use Rattle.std.proofs.lemmas.Bool.{and_parts, and_from, cases_lt, lt-ltb, ltb-true}
+use Rattle.std.proofs.lemmas.Bool.{and_from, cases_lt, lt-ltb}
 use Rattle.blocks.specs.Devices.{Device, ShallowMark, ShallowTab, block_at, in_range, mark_at, mark_fault, outcome, read_fault, read_out, size_of, tab_fault, write_fault, written}
 use Rattle.blocks.specs.Layers.{cut_out, deeper_mark, deeper_tab, passed_up, windowed}
 use Rattle.blocks.specs.declared.faults.Fault.{Fault}
@@ -10,7 +10,8 @@ use Rattle.blocks.specs.declared.faults.Mark.{Mark}
 use Rattle.blocks.specs.declared.faults.Mark.TheVariants.{Sound, Bad}
 use Rattle.blocks.specs.declared.faults.Tab.{Tab}
 use Rattle.blocks.specs.declared.faults.Tab.TheVariants.{Off, On}
-use Rattle.blocks.specs.Layering.{layer-filled, layer-read, layer-write, mark-deeper, marks-deeper, shallow-deeper, shallow-tab, write_low, write_up}
+use Rattle.blocks.specs.Layering.{layer-filled, layer-read, layer-write, mark-deeper, marks-deeper, shallow-deeper, shallow-tab, write_up}
+use Rattle.blocks.specs.Ranges.{range-facts, write-in-range}
 
 -- what stands at place b of a part of a list
 through : {X : Type 0} (xs : List X) (f c b : ℕ) (d : X) → b < c → slice_index_or (take c (drop f xs)) b d ≡ slice_index_or xs (f + b) d
@@ -70,19 +71,17 @@ window-shallow low f c shallow b = (at (cases_lt b c), shallow-tab low.tab (shal
     at (inr h) =
         subst ShallowMark (sym (mark-deeper (take c (drop f low.marks)) b ∙ ap deeper_mark (through-past low.marks f c b Sound h))) tt
 
+-- a window ends within the device below
+pub window-within : (low : Device) (first c : ℕ) → min first (size_of low - 1) + size_of (windowed first c low) ≤ size_of low
+window-within low first c = omega (arith, length_part low.blocks (min first (size_of low - 1)) c)
+
 -- a block that is in range above is in range below
-pub range-below : (low : Device) (first f c b n len : ℕ) → n ≡ size_of (windowed first c low) → f + n ≤ size_of low
-    → (nat_lt b n && len == 1024) ≡ true → (in_range low (f + b) len ≡ true) × (in_range (windowed first c low) b len ≡ true) × (b < n) × (b < c)
-range-below low first f c b n len e w h =
-    let parts = and_parts (nat_lt b n) (len == 1024) h in
-    let less = ltb-true b n parts.0 in
+pub range-below : (low : Device) (first f c b len : ℕ) → f + size_of (windowed first c low) ≤ size_of low → in_range (windowed first c low) b len ≡ true
+    → (in_range low (f + b) len ≡ true) × (b < c)
+range-below low first f c b len w h =
+    let (less, wide) = range-facts (windowed first c low) b len h in
     let below : f + b < size_of low = omega arith in
-    let few : n ≤ c = omega (arith, e ∙ length_part low.blocks (min first (size_of low - 1)) c) in (
-      and_from _ _ (lt-ltb (f + b) (size_of low) below) parts.1,
-      ap (λ m. nat_lt b m && len == 1024) (sym e) ∙ h,
-      less,
-      omega arith,
-    )
+    (and_from _ _ (lt-ltb (f + b) (size_of low) below) (ap (λ l. l == 1024) wide), omega (arith, length_part low.blocks (min first (size_of low - 1)) c))
 
 -- a write below, seen through the window
 module _ (low : Device) (first c b : ℕ) (bytes : List ℕ) where
@@ -99,11 +98,11 @@ module _ (low : Device) (first c b : ℕ) (bytes : List ℕ) where
 
   none-up : (t : Tab) (m : Mark) → tab_fault t (mark_fault m) ≡ None → tab_fault (deeper_tab t) (mark_fault (deeper_mark m)) ≡ None
   none-up Off Sound e = refl
-  none-up Off (Bad depth place) e = absurd (let z : ◌≡◌ {A = ℕ} 0 1 = cc in omega arith)
-  none-up (On depth) m e = absurd (let z : ◌≡◌ {A = ℕ} 0 1 = cc in omega arith)
+  none-up Off (Bad depth place) e = absurd cc
+  none-up (On depth) m e = absurd cc
 
   some_up : (t : Tab) (m : Mark) (x : Fault) → tab_fault t (mark_fault m) ≡ Some x → (y : Fault) × (tab_fault (deeper_tab t) (mark_fault (deeper_mark m)) ≡ Some y)
-  some_up Off Sound x e = absurd (let z : ◌≡◌ {A = ℕ} 0 1 = cc in omega arith)
+  some_up Off Sound x e = absurd cc
   some_up Off (Bad depth place) x e = (_, refl)
   some_up (On depth) m x e = (_, refl)
 
@@ -113,44 +112,44 @@ module _ (low : Device) (first c b : ℕ) (bytes : List ℕ) where
       ≡ written (write_fault (windowed first c low) b len) (windowed first c low) b bytes
   window-written len above below inside =
       let f = min first (size_of low - 1) in
-      let low-is = write_low low (windowed first c low) b (f + b) len above below (mark-through low f c b inside) in
+      let low-is = write-in-range low (f + b) len below in
       let up_is = write_up low (windowed first c low) b (f + b) len above below (mark-through low f c b inside) refl in
       seen (write_fault low (f + b) len) (write_fault (windowed first c low) b len)
       (λ e. up_is ∙ none-up low.tab (mark_at low (f + b)) (sym low-is ∙ e))
       (λ x e. let y = some_up low.tab (mark_at low (f + b)) x (sym low-is ∙ e) in (y.0, up_is ∙ y.1))
 
--- a read through a window that begins at block f below and has n blocks
+-- a read of block b of a window, which is block `at` of the device below
 abbrev ReadThrough : Device → ℕ → ℕ → ℕ → ℕ → ℕ → Type 0
-ReadThrough low first c b len f =
-    (passed_up (outcome (read_fault low (f + b) len)) ≡ outcome (read_fault (windowed first c low) b len))
-    × ((buffer : List ℕ) → read_out (read_fault low (f + b) len) (block_at low (f + b)) buffer
+ReadThrough low first c b len at =
+    (passed_up (outcome (read_fault low at len)) ≡ outcome (read_fault (windowed first c low) b len))
+    × ((buffer : List ℕ) → read_out (read_fault low at len) (block_at low at) buffer
     ≡ read_out (read_fault (windowed first c low) b len) (block_at (windowed first c low) b) buffer)
 
-pub window-read : (low : Device) (first c f n b len : ℕ) → f ≡ min first (size_of low - 1) → n ≡ size_of (windowed first c low) → f + n ≤ size_of low
-    → (nat_lt b n && len == 1024) ≡ true → ReadThrough low first c b len f
-window-read low first c f n b len e size w h =
+pub window-read : (low : Device) (first c b len at : ℕ) → at ≡ min first (size_of low - 1) + b → in_range (windowed first c low) b len ≡ true
+    → ReadThrough low first c b len at
+window-read low first c b len at e h =
     let g = min first (size_of low - 1) in
-    let in' = range-below low first g c b n len size (omega (arith, e)) h in
-    let mark = mark-through low g c b in'.3 in
+    let in' = range-below low first g c b len (window-within low first c) h in
+    let mark = mark-through low g c b in'.1 in
     subst (ReadThrough low first c b len) (sym e) (
-      layer-read low (windowed first c low) b (g + b) len in'.1 in'.0 mark,
+      layer-read low (windowed first c low) b (g + b) len h in'.0 mark,
       λ buffer.
-          layer-filled low (windowed first c low) b (g + b) len in'.1 in'.0 mark (block_at low (g + b)) buffer
-          ∙ ap (λ x. read_out (read_fault (windowed first c low) b len) x buffer) (sym (block-through low g c b in'.3)),
+          layer-filled low (windowed first c low) b (g + b) len h in'.0 mark (block_at low (g + b)) buffer
+          ∙ ap (λ x. read_out (read_fault (windowed first c low) b len) x buffer) (sym (block-through low g c b in'.1)),
     )
 
 -- a write through it
 abbrev WriteThrough : Device → ℕ → ℕ → ℕ → ℕ → List ℕ → ℕ → Type 0
-WriteThrough low first c b len bytes f =
-    (passed_up (outcome (write_fault low (f + b) len)) ≡ outcome (write_fault (windowed first c low) b len))
-    × (windowed first c (written (write_fault low (f + b) len) low (f + b) bytes) ≡ written (write_fault (windowed first c low) b len) (windowed first c low) b bytes)
+WriteThrough low first c b len bytes at =
+    (passed_up (outcome (write_fault low at len)) ≡ outcome (write_fault (windowed first c low) b len))
+    × (windowed first c (written (write_fault low at len) low at bytes) ≡ written (write_fault (windowed first c low) b len) (windowed first c low) b bytes)
 
-pub window-write : (low : Device) (first c f n b len : ℕ) (bytes : List ℕ) → f ≡ min first (size_of low - 1) → n ≡ size_of (windowed first c low)
-    → f + n ≤ size_of low → (nat_lt b n && len == 1024) ≡ true → WriteThrough low first c b len bytes f
-window-write low first c f n b len bytes e size w h =
+pub window-write : (low : Device) (first c b len at : ℕ) (bytes : List ℕ) → at ≡ min first (size_of low - 1) + b → in_range (windowed first c low) b len ≡ true
+    → WriteThrough low first c b len bytes at
+window-write low first c b len at bytes e h =
     let g = min first (size_of low - 1) in
-    let in' = range-below low first g c b n len size (omega (arith, e)) h in
+    let in' = range-below low first g c b len (window-within low first c) h in
     subst (WriteThrough low first c b len bytes) (sym e) (
-      layer-write low (windowed first c low) b (g + b) len in'.1 in'.0 (mark-through low g c b in'.3) refl,
-      window-written low first c b bytes len in'.1 in'.0 in'.3,
+      layer-write low (windowed first c low) b (g + b) len h in'.0 (mark-through low g c b in'.1) refl,
+      window-written low first c b bytes len h in'.0 in'.1,
     )

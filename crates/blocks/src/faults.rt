@@ -16,7 +16,8 @@ pub enum Mark {
     Bad { depth: u8, place: u16 },
 }
 
-// The write-protect tab: off, or on at a depth. An enum of its own: an `Option<u8>` would not say which of them is on.
+// The write-protect tab: off, or on at a depth. An enum of its own and not an `Option<u8>`: it is a word of what a device
+// means, over which every theorem of devices, and of all that is built on them, stands.
 #[derive(Clone, Copy, PartialEq, Eq, Debug)]
 pub enum Tab {
     Off,
@@ -147,5 +148,5 @@ impl Tab {
 fn next_depth(depth: u8) -> u8
     ensures { result ≡ deeper_of depth }
 {
-    if depth < 15 { depth + 1 } else { 15 }
+    depth.min(14) + 1
 }

@@ -1,15 +1,13 @@
 // The image: bytes handed in, block b at byte 1,024 × b, all blocks sound.
-ghost use Rattle.std.specs.Prelude.{◌≡◌, ℕ, ◌+◌, ◌*◌, ◌<◌, ◌≤◌, true, false, length, take, drop, MatchResult, slice_index};
+ghost use Rattle.std.specs.Prelude.{◌≡◌, ℕ, ◌+◌, ◌*◌, ◌<◌, ◌≤◌, true, false, length, Err, MatchResult, slice_index};
 ghost use Rattle.blocks.specs.Images.{encoded, image_of, is_image as is_image_of};
-ghost use Rattle.parts.specs.Parts.{stored};
-ghost use Rattle.refusal.specs.declared.Refusal.TheVariants.{OutOfRange};
+ghost use Rattle.blocks.specs.Rejects.{out_of_range};
 ghost use Rattle.blocks.specs.Imaging.{image-sized, image-wide, image-small, image-marked, image-shallow};
 
 use crate::device::BlockDevice;
 use crate::faults::{Fault, Tab};
-use crate::layers::{BLOCK, check_range};
+use crate::ranges::{BLOCK, check_range};
 use crate::rejected::Rejected;
-use refusal::Refusal;
 
 // `protected` is a flag and not a `Tab`: an image's own tab is never at a depth.
 #[derive(Drop)]
@@ -24,42 +22,43 @@ pub struct Image {
 fn is_image(bytes: &[u8]) -> bool
     ensures { result ≡ is_image_of bytes.now }
 {
-    bytes.len() % BLOCK == 0 && bytes.len() / BLOCK >= 1 && bytes.len() / BLOCK <= 65_535
-}
-
-// Where a block begins.
-fn start_of(block: u32) -> usize
-    ensures { result ≡ 1024 * block }
-{
-    BLOCK * block as usize
+    bytes.len() % BLOCK == 0 && (1..=65_535).contains(&(bytes.len() / BLOCK))
 }
 
 impl Image {
+    ghost use Rattle.blocks.specs.Devices.{in_range, outcome, range_fault, size_of};
+    ghost use Rattle.blocks.specs.Held.{device_of};
+
     // The bytes as a device, with its write-protect tab on or off; else they are handed back.
     pub fn new(bytes: Vec<u8>, protected: bool) -> Result<Image, Rejected<Vec<u8>>>
-        ensures { MatchResult result (λ image. (is_image_of bytes.items ≡ true) × (image_of image.bytes.items image.protected ≡ image_of bytes.items protected)) (λ e. (is_image_of bytes.items ≡ false) × (e.refusal ≡ OutOfRange) × (e.given ≡ bytes)) }
+        ensures { MatchResult result (λ image. (is_image_of bytes.items ≡ true) × (device_of image ≡ image_of bytes.items protected)) (λ e. (is_image_of bytes.items ≡ false) × (e ≡ out_of_range bytes)) }
     {
         if !is_image(bytes.as_slice()) {
-            return Err(Rejected {
-                refusal: Refusal::OutOfRange,
-                given: bytes,
-            });
+            return Err(Rejected::out_of_range(bytes));
         }
         Ok(Image { bytes, protected })
     }
 
     // The bytes as they are now.
     pub fn bytes(&self) -> &[u8]
-        ensures { result.now ≡ encoded (image_of self.now.bytes.items self.now.protected) }
+        ensures { result.now ≡ encoded (device_of self.now) }
     {
         self.bytes.as_slice()
     }
 
     // Takes the bytes out again.
     pub fn into_bytes(self) -> Vec<u8>
-        ensures { result.items ≡ encoded (image_of self.bytes.items self.protected) }
+        ensures { result.items ≡ encoded (device_of self) }
     {
         self.bytes
+    }
+
+    // Where a block begins that is asked for with a buffer of such a length.
+    fn find(&self, block: u32, len: usize) -> Result<usize, Fault>
+        ensures { MatchResult result (λ at. (in_range (device_of self.now) block len ≡ true) × (at ≡ 1024 * block) × (at + 1024 ≤ length self.now.bytes.items)) (λ fault. Err fault ≡ outcome (range_fault block (size_of (device_of self.now)) len)) }
+    {
+        check_range(block, self.size(), len)?;
+        Ok(BLOCK * block as usize)
     }
 }
 
@@ -85,16 +84,14 @@ impl BlockDevice for Image {
     }
 
     fn read(&self, block: u32, buffer: &mut [u8]) -> Result<(), Fault> {
-        check_range(block, self.size(), buffer.len())?;
-        let at = start_of(block);
+        let at = self.find(block, buffer.len())?;
         buffer.copy_from_slice(&self.bytes[at..at + BLOCK]);
         Ok(())
     }
 
     fn write(&mut self, block: u32, buffer: &[u8]) -> Result<(), Fault> {
-        check_range(block, self.size(), buffer.len())?;
+        let at = self.find(block, buffer.len())?;
         self.tab().check()?;
-        let at = start_of(block);
         self.bytes[at..at + BLOCK].copy_from_slice(buffer);
         Ok(())
     }

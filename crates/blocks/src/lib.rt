@@ -4,15 +4,15 @@
 mod device;
 mod faults;
 mod images;
-mod layers;
 mod protects;
+mod ranges;
 mod rejected;
 mod windows;
 
 pub use device::BlockDevice;
 pub use faults::{Fault, Mark, Tab};
 pub use images::Image;
-pub use layers::{BLOCK, check_range};
 pub use protects::WriteProtect;
+pub use ranges::{BLOCK, check_range};
 pub use rejected::Rejected;
 pub use windows::Window;

@@ -7,7 +7,7 @@ ghost use Rattle.blocks.specs.Devices.{ShallowMark, mark_at};
 
 use crate::device::BlockDevice;
 use crate::faults::{Fault, Tab};
-use crate::layers::check_range;
+use crate::ranges::check_range;
 
 // A type beside `Window`, and not the two as one generic layer: they share the device below and the way back to it, and a
 // trait that says which blocks and which tab a layer has would be longer than both.
@@ -70,6 +70,6 @@ impl<D: BlockDevice> BlockDevice for WriteProtect<D> {
 
     fn write(&mut self, block: u32, buffer: &[u8]) -> Result<(), Fault> {
         check_range(block, self.inner.size(), buffer.len())?;
-        Err(Fault::WriteProtected { depth: 0 })
+        self.tab().check()
     }
 }

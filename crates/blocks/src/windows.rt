@@ -1,15 +1,14 @@
 // The window: some blocks of a device, as a device.
-ghost use Rattle.std.specs.Prelude.{◌≡◌, ◌+◌, ◌-◌, ◌≤◌, min, true, false, ◌&&◌, MatchResult, nat_le};
-ghost use Rattle.blocks.specs.Devices.{size_of};
+ghost use Rattle.std.specs.Prelude.{◌≡◌, ◌+◌, ◌-◌, ◌≤◌, min, true, false, ◌&&◌, Err, MatchResult, nat_le};
+ghost use Rattle.blocks.specs.Devices.{in_range, outcome, range_fault, size_of};
 ghost use Rattle.blocks.specs.Layers.{cut_out, windowed};
-ghost use Rattle.refusal.specs.declared.Refusal.TheVariants.{OutOfRange};
+ghost use Rattle.blocks.specs.Rejects.{out_of_range};
 ghost use Rattle.blocks.specs.Through.{window-sized, window-wide, window_bytes, window-marked, window-shallow};
 
 use crate::device::BlockDevice;
 use crate::faults::{Fault, Tab};
-use crate::layers::check_range;
+use crate::ranges::check_range;
 use crate::rejected::Rejected;
-use refusal::Refusal;
 
 // `count` blocks from block `first` on of the device below.
 #[derive(Drop)]
@@ -39,13 +38,10 @@ impl<D> Window<D> {
 impl<D: BlockDevice> Window<D> {
     // A window with a block, that ends at or before the end of the device below; else that device is handed back.
     pub fn new(inner: D, first: u32, count: u32) -> Result<Window<D>, Rejected<D>>
-        ensures { MatchResult result (λ w. (nat_le 1 count && nat_le (first + count) (size_of (D.BlockDevice.meaning inner)) ≡ true) × (w.inner ≡ inner) × (windowed w.first w.count (D.BlockDevice.meaning inner) ≡ cut_out first count (D.BlockDevice.meaning inner))) (λ e. (nat_le 1 count && nat_le (first + count) (size_of (D.BlockDevice.meaning inner)) ≡ false) × (e.refusal ≡ OutOfRange) × (e.given ≡ inner)) }
+        ensures { MatchResult result (λ w. (nat_le 1 count && nat_le (first + count) (size_of (D.BlockDevice.meaning inner)) ≡ true) × (w.inner ≡ inner) × (windowed w.first w.count (D.BlockDevice.meaning inner) ≡ cut_out first count (D.BlockDevice.meaning inner))) (λ e. (nat_le 1 count && nat_le (first + count) (size_of (D.BlockDevice.meaning inner)) ≡ false) × (e ≡ out_of_range inner)) }
     {
         if !fits(inner.size(), first, count) {
-            return Err(Rejected {
-                refusal: Refusal::OutOfRange,
-                given: inner,
-            });
+            return Err(Rejected::out_of_range(inner));
         }
         Ok(Window {
             inner,
@@ -63,6 +59,15 @@ impl<D: BlockDevice> Window<D> {
         let below = self.inner.size();
         let first = self.first.min(below - 1);
         (first, self.count.min(below - first))
+    }
+
+    // The block below that a block is, which is asked for with a buffer of such a length.
+    fn find(&self, block: u32, len: usize) -> Result<u32, Fault>
+        ensures { MatchResult result (λ below. (in_range (windowed self.now.first self.now.count (D.BlockDevice.meaning self.now.inner)) block len ≡ true) × (below ≡ min self.now.first (size_of (D.BlockDevice.meaning self.now.inner) - 1) + block)) (λ fault. Err fault ≡ outcome (range_fault block (size_of (windowed self.now.first self.now.count (D.BlockDevice.meaning self.now.inner))) len)) }
+    {
+        let (first, size) = self.span();
+        check_range(block, size, len)?;
+        Ok(first + block)
     }
 }
 
@@ -99,19 +104,13 @@ impl<D: BlockDevice> BlockDevice for Window<D> {
     }
 
     fn read(&self, block: u32, buffer: &mut [u8]) -> Result<(), Fault> {
-        let (first, size) = self.span();
-        check_range(block, size, buffer.len())?;
-        self.inner
-            .read(first + block, buffer)
-            .map_err(Fault::deeper)
+        let below = self.find(block, buffer.len())?;
+        self.inner.read(below, buffer).map_err(Fault::deeper)
     }
 
     fn write(&mut self, block: u32, buffer: &[u8]) -> Result<(), Fault> {
-        let (first, size) = self.span();
-        check_range(block, size, buffer.len())?;
-        self.inner
-            .write(first + block, buffer)
-            .map_err(Fault::deeper)
+        let below = self.find(block, buffer.len())?;
+        self.inner.write(below, buffer).map_err(Fault::deeper)
     }
 }
 

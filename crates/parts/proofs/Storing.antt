@@ -5,7 +5,7 @@ use borrow.Rule.Slice.PartMut.{put_mid}
 use Rattle.std.specs.List.{range_with_len, flat_map}
 use Rattle.std.proofs.lemmas.List.{drop-drop, get_or_append_left, get_or-append_right, get_or-drop, get_or_past, get_or-take, length-append, length-drop, length-take, same_lists, take_all}
 use Rattle.std.proofs.lemmas.Bool.{and_parts, cases_lt, eqb-true, leb-true, ltb-true}
-use Rattle.parts.specs.Parts.{stored}
+use Rattle.parts.specs.Parts.{part, stored}
 
 -- what a copy to a part leaves
 pub stored-mid : (xs ys new : List ℕ) (at k : ℕ) → ys ≡ new → k ≡ length new → put_mid at k xs ys ≡ stored xs at new
@@ -61,6 +61,14 @@ module _ (xs : List ℕ) (at : ℕ) (ys : List ℕ) (fits : at + length ys ≤ l
       (λ k d h.
       let l : k < length ys = omega (arith, length-take (length ys) (drop at (stored xs at ys))) in
       get_or-take (length ys) (drop at (stored xs at ys)) k d l ∙ get_or-drop at (stored xs at ys) k d ∙ stored-within k d l)
+
+-- each byte of a part fits where all bytes fit
+pub part-small : (xs : List ℕ) (at n : ℕ) → ((j : ℕ) → slice_index xs j < 256) → (i : ℕ) → slice_index (part at n xs) i < 256
+part-small xs at n small i = by (cases_lt i n)
+  where
+    by : (i < n) ⊎ (n ≤ i) → slice_index (part at n xs) i < 256
+    by (inl h) = rw (get_or-take n (drop at xs) i 0 h ∙ get_or-drop at xs i 0) (small (at + i))
+    by (inr h) = rw (get_or_past (part at n xs) i 0 (omega (arith, length-take n (drop at xs)))) (lit< tt)
 
 -- each byte fits after a write of bytes that fit
 pub stored-small : (xs : List ℕ) (at : ℕ) (ys : List ℕ) → at + length ys ≤ length xs → ((i : ℕ) → slice_index xs i < 256) → ((i : ℕ) → slice_index ys i < 256)
