@@ -1,4 +1,5 @@
 pub mod Disks
+pub mod Held
 pub mod Interleave
 pub mod Sectoring
 pub mod Records

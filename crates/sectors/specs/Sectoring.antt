@@ -1,17 +1,18 @@
 -- Records as a device: its laws, its blocks, a write, and the records again. Assumes nothing.
-use Rattle.std.specs.Prelude.{◌≡◌, ℕ, zero, suc, ◌+◌, ◌-◌, ◌*◌, ◌/◌, ◌%◌, ◌<◌, ◌≤◌, Bool, true, false, cond, ◌&&◌, ◌⊎◌, List, [], ◌∷◌, ◌++◌, map, length, take, drop, set, None, ◌==◌, ◌≢◌, nat_lt, slice_index, slice_set, refl}
+use Rattle.std.specs.Prelude.{◌≡◌, ℕ, zero, suc, ◌+◌, ◌-◌, ◌*◌, ◌/◌, ◌%◌, ◌<◌, ◌≤◌, Bool, true, false, cond, ◌&&◌, ◌⊎◌, List, [], ◌∷◌, ◌++◌, map, length, take, drop, set, None, ◌==◌, ◌≢◌, slice_index, slice_set, refl}
 use Rattle.std.proofs.Math.Path.{sym}
 use Rattle.std.proofs.Common.{ap, ap₂, subst, ◌∙◌, append-nil, inl, inr, ⊎_elim, arith, lit<, lit≤, take-add}
 use borrow.Rule.Slice.PartMut.{put_mid}
 use Rattle.std.specs.List.{range_with_len, flat_map}
-use Rattle.std.proofs.lemmas.List.{drop_all, drop_at, drop-drop, get_or_append_left, get_or-append_right, get_or-drop, get_or_past, get_or-take, length-append, length-drop, length-take, take_all, take-append-drop, take_at, take_more}
-use Rattle.std.proofs.lemmas.Bool.{and_parts, cases_lt, cases_order, eqb-true, ltb-true}
+use Rattle.std.proofs.lemmas.List.{drop_all, drop_at, drop-drop, get_or_append_left, get_or-append_right, get_or-drop, length-append, length-drop, length-take, take_all, take-append-drop, take_at, take_more}
+use Rattle.std.proofs.lemmas.Bool.{cases_lt, cases_order, eqb-true}
 use Rattle.blocks.specs.Devices.{ShallowMark, ShallowTab, block_at, in_range, mark_at, size_of, written}
 use Rattle.blocks.specs.Images.{tab_of, tabulated}
 use Rattle.parts.specs.Parts.{stored}
 use Rattle.blocks.specs.declared.faults.Mark.TheVariants.{Sound, Bad}
 use Rattle.blocks.specs.Imaging.{tab-shallow}
-use Rattle.parts.proofs.Storing.{length-stored, part-aside, part-itself, stored-before, stored-behind}
+use Rattle.parts.proofs.Storing.{length-stored, part-aside, part-itself, part-small, stored-before, stored-behind}
+use Rattle.blocks.specs.Ranges.{range-facts}
 use Rattle.blocks.specs.Tables.{get_or-tabulated, length-tabulated, tabulated-past, tabulated-same, tabulated-set}
 use Rattle.sectors.specs.Disks.{block_count, disk_block, disk_mark, disk_of, encoded_disk, is_disk, is_good, record_count, sector_bytes, sector_in, sector_of, start_of, statuses, step_back}
 use Rattle.sectors.specs.Interleave.{record_of, sector_count, step_size, track_count}
@@ -57,14 +58,6 @@ disk-wide xs p whole b h =
     let l : b < block_count = omega (arith, disk-size xs p) in
     ap length (disk-block xs p b l) ∙ block-wide xs b (disk-length xs whole) l
 
--- a byte of a part of bytes that fit fits
-part_small : (xs : List ℕ) (at n i : ℕ) → ((j : ℕ) → slice_index xs j < 256) → slice_index (take n (drop at xs)) i < 256
-part_small xs at n i small = by (cases_lt i n)
-  where
-    by : (i < n) ⊎ (n ≤ i) → slice_index (take n (drop at xs)) i < 256
-    by (inl h) = subst (λ v. v < 256) (sym (get_or-take n (drop at xs) i 0 h ∙ get_or-drop at xs i 0)) (small (at + i))
-    by (inr h) = subst (λ v. v < 256) (sym (get_or_past (take n (drop at xs)) i 0 (omega (arith, length-take n (drop at xs))))) (lit< tt)
-
 append-small : (xs ys : List ℕ) → ((i : ℕ) → slice_index xs i < 256) → ((i : ℕ) → slice_index ys i < 256) → (i : ℕ) → slice_index (xs ++ ys) i < 256
 append-small xs ys hx hy i = by (cases_lt i (length xs))
   where
@@ -78,7 +71,7 @@ disk-small xs p small b i = by (cases_lt b block_count)
     by : (b < block_count) ⊎ (block_count ≤ b) → slice_index (block_at (disk_of xs p) b) i < 256
     by (inl h) =
         subst (λ x. slice_index x i < 256) (sym (disk-block xs p b h))
-        (append-small (sector_bytes xs (2 * b)) (sector_bytes xs (2 * b + 1)) (λ j. part_small xs (start_of (2 * b)) 512 j small) (λ j. part_small xs (start_of (2 * b + 1)) 512 j small) i)
+        (append-small (sector_bytes xs (2 * b)) (sector_bytes xs (2 * b + 1)) (part-small xs (start_of (2 * b)) 512 small) (part-small xs (start_of (2 * b + 1)) 512 small) i)
     by (inr h) = subst (λ x. slice_index x i < 256) (sym (tabulated-past block_count (disk_block xs) b [] h)) (lit< tt)
 
 pub disk-mark-at : (xs : List ℕ) (p : Bool) (b : ℕ) → b < block_count → (good : Bool) → good ≡ is_good xs b → cond good Sound (Bad 0 b) ≡ mark_at (disk_of xs p) b
@@ -106,9 +99,8 @@ halves one rest two k f h =
 -- a block in range
 pub block-and-length : (xs : List ℕ) (p : Bool) (b len : ℕ) → in_range (disk_of xs p) b len ≡ true → (b < block_count) × (len ≡ 1024)
 block-and-length xs p b len in' =
-    let parts = and_parts (nat_lt b (size_of (disk_of xs p))) (len == 1024) in' in
-    let l = ltb-true b (size_of (disk_of xs p)) parts.0 in
-    (omega (arith, disk-size xs p), eqb-true len 1024 parts.1)
+    let (less, wide) = range-facts (disk_of xs p) b len in' in
+    (omega (arith, disk-size xs p), wide)
 
 -- the records after both sectors of a block were written
 module _ (xs : List ℕ) (long : length xs ≡ 513 * record_count) (b : ℕ) (l : b < block_count) (one two : List ℕ) (f : length one ≡ 512) (s : length two ≡ 512) where

@@ -2,13 +2,12 @@
 ghost use Rattle.std.specs.Prelude.{◌≡◌, ℕ, ◌+◌, ◌*◌, ◌<◌, ◌≤◌, true, false, length, None, Ok, Err, MatchResult, slice_index};
 ghost use Rattle.blocks.specs.Devices.{block_at, mark_at, outcome, range_fault, size_of, write_fault, written};
 ghost use Rattle.parts.specs.Parts.{stored};
-ghost use Rattle.refusal.specs.declared.Refusal.TheVariants.{OutOfRange};
+ghost use Rattle.blocks.specs.Rejects.{out_of_range};
 ghost use Rattle.sectors.specs.Disks.{block_count, disk_of, encoded_disk, is_disk as is_disk_of, is_good, record_count, sector_bytes, start_of, status_at, statuses};
 ghost use Rattle.sectors.specs.Sectoring.{disk-sized, disk-wide, disk-small, disk-marked, disk-shallow};
 
 use crate::interleave::interleaved;
 use blocks::{BLOCK, BlockDevice, Fault, Mark, Rejected, Tab, check_range};
-use refusal::Refusal;
 
 // The bytes of a sector.
 const SECTOR: usize = BLOCK / 2;
@@ -66,36 +65,35 @@ impl Place {
 }
 
 impl SectorDisk {
+    ghost use Rattle.sectors.specs.Held.{device_of, statuses_of};
+
     // The records as a device, with its write-protect tab on or off; else they are handed back.
     pub fn new(bytes: Vec<u8>, protected: bool) -> Result<SectorDisk, Rejected<Vec<u8>>>
-        ensures { MatchResult result (λ disk. (is_disk_of bytes.items ≡ true) × (disk_of disk.bytes.items disk.protected ≡ disk_of bytes.items protected) × (statuses disk.bytes.items ≡ statuses bytes.items)) (λ e. (is_disk_of bytes.items ≡ false) × (e.refusal ≡ OutOfRange) × (e.given ≡ bytes)) }
+        ensures { MatchResult result (λ disk. (is_disk_of bytes.items ≡ true) × (device_of disk ≡ disk_of bytes.items protected) × (statuses_of disk ≡ statuses bytes.items)) (λ e. (is_disk_of bytes.items ≡ false) × (e ≡ out_of_range bytes)) }
     {
         if bytes.len() != DISK {
-            return Err(Rejected {
-                refusal: Refusal::OutOfRange,
-                given: bytes,
-            });
+            return Err(Rejected::out_of_range(bytes));
         }
         Ok(SectorDisk { bytes, protected })
     }
 
     // The records as they are now.
     pub fn bytes(&self) -> &[u8]
-        ensures { result.now ≡ encoded_disk (disk_of self.now.bytes.items self.now.protected) (statuses self.now.bytes.items) }
+        ensures { result.now ≡ encoded_disk (device_of self.now) (statuses_of self.now) }
     {
         self.bytes.as_slice()
     }
 
     // Takes the records out again.
     pub fn into_bytes(self) -> Vec<u8>
-        ensures { result.items ≡ encoded_disk (disk_of self.bytes.items self.protected) (statuses self.bytes.items) }
+        ensures { result.items ≡ encoded_disk (device_of self) (statuses_of self) }
     {
         self.bytes
     }
 
     // A block that is asked for with a buffer of such a length.
     fn find(&self, block: u32, len: usize) -> Result<Place, Fault>
-        ensures { MatchResult result (λ place. (Ok tt ≡ outcome (range_fault block (size_of (disk_of self.now.bytes.items self.now.protected)) len)) × (place.block ≡ block)) (λ fault. Err fault ≡ outcome (range_fault block (size_of (disk_of self.now.bytes.items self.now.protected)) len)) }
+        ensures { MatchResult result (λ place. (Ok tt ≡ outcome (range_fault block (size_of (device_of self.now)) len)) × (place.block ≡ block)) (λ fault. Err fault ≡ outcome (range_fault block (size_of (device_of self.now)) len)) }
     {
         check_range(block, self.size(), len)?;
         Ok(Place {
@@ -128,7 +126,7 @@ impl SectorDisk {
     }
 
     fn mark(&self, place: Place) -> Mark
-        ensures { result ≡ mark_at (disk_of self.now.bytes.items self.now.protected) place.block }
+        ensures { result ≡ mark_at (device_of self.now) place.block }
     {
         if self.is_good(place) {
             Mark::Sound
@@ -143,7 +141,7 @@ impl SectorDisk {
     // Copies the two sectors of a block into a buffer.
     fn read_block(&self, place: Place, buffer: &mut [u8])
         requires { length buffer.old ≡ 1024 }
-        ensures { buffer.new ≡ block_at (disk_of self.now.bytes.items self.now.protected) place.block }
+        ensures { buffer.new ≡ block_at (device_of self.now) place.block }
     {
         let (first, second) = place.sectors();
         buffer[..SECTOR].copy_from_slice(self.sector(first));
@@ -163,8 +161,8 @@ impl SectorDisk {
     // Puts the two halves of a buffer into the sectors of a block.
     fn write_block(&mut self, place: Place, buffer: &[u8])
         requires { length buffer.now ≡ 1024 }
-        ensures after { disk_of self.new.bytes.items self.new.protected ≡ written None (disk_of self.old.bytes.items self.old.protected) place.block buffer.now }
-        ensures statuses { statuses self.new.bytes.items ≡ statuses self.old.bytes.items }
+        ensures after { device_of self.new ≡ written None (device_of self.old) place.block buffer.now }
+        ensures statuses { statuses_of self.new ≡ statuses_of self.old }
     {
         let (first, second) = place.sectors();
         self.write_sector(first, &buffer[..SECTOR]);
@@ -173,7 +171,9 @@ impl SectorDisk {
 }
 
 impl BlockDevice for SectorDisk {
-    ghost meaning = { λ x. disk_of x.bytes.items x.protected };
+    ghost use Rattle.sectors.specs.Held.{device_of, statuses_of};
+
+    ghost meaning = { device_of };
 
     ghost sized = { λ x. disk-sized x.bytes.items x.protected };
 
@@ -202,9 +202,9 @@ impl BlockDevice for SectorDisk {
 
     // Beside what every device promises: no status byte changes.
     fn write(&mut self, block: u32, buffer: &[u8]) -> Result<(), Fault>
-        ensures reply { result ≡ outcome (write_fault (disk_of self.old.bytes.items self.old.protected) block (length buffer.now)) }
-        ensures after { disk_of self.new.bytes.items self.new.protected ≡ written (write_fault (disk_of self.old.bytes.items self.old.protected) block (length buffer.now)) (disk_of self.old.bytes.items self.old.protected) block buffer.now }
-        ensures statuses { statuses self.new.bytes.items ≡ statuses self.old.bytes.items }
+        ensures reply { result ≡ outcome (write_fault (device_of self.old) block (length buffer.now)) }
+        ensures after { device_of self.new ≡ written (write_fault (device_of self.old) block (length buffer.now)) (device_of self.old) block buffer.now }
+        ensures statuses { statuses_of self.new ≡ statuses_of self.old }
     {
         let place = self.find(block, buffer.len())?;
         self.tab().check()?;
