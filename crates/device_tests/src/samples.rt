@@ -1,4 +1,5 @@
-// Devices for the tests, and checks of what a device answers.
+// Devices for the tests, and checks of what a device answers. The handle to stop a test and the heap are two parameters:
+// the test's runtime, which has both, can stop a test only in the function that was given it.
 use blocks::{BlockDevice, Fault, Image, Rejected, Tab, Window};
 use sectors::SectorDisk;
 use std::alloc::{AllocError, Global};
@@ -22,7 +23,7 @@ pub(crate) fn blocks_of(heap: Global, values: &[u8]) -> Result<Vec<u8>, AllocErr
 // An image of three blocks: of ones, of twos and of threes.
 pub(crate) fn image(heap: Global, protected: bool) -> Result<Image, Fail> {
     let bytes = blocks_of(heap, &[1, 2, 3])?;
-    Image::new(bytes, protected).map_err(|_| Fail::new("three blocks are an image"))
+    Ok(Image::new(bytes, protected)?)
 }
 
 // The 320 records of a disk. Each is filled with its number, less 256 from record 256 on, and all are good.
@@ -63,10 +64,10 @@ pub(crate) fn disk(
     protected: bool,
 ) -> Result<SectorDisk, Fail> {
     let bytes = records_with(heap, record, status)?;
-    SectorDisk::new(bytes, protected).map_err(|_| Fail::new("320 records are a disk"))
+    Ok(SectorDisk::new(bytes, protected)?)
 }
 
-// So many blocks of a device from a first one on.
+// So many blocks of a device from a first one on. By `map_err`: `?` would ask that the device can be printed.
 pub(crate) fn window<D: BlockDevice + Drop>(
     device: D,
     first: u32,
