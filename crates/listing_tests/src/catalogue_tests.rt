@@ -7,11 +7,7 @@ use std::test::Fail;
 #[test]
 fn a_catalogue(rt: HostRuntime) -> Result<(), Fail> {
     let heap = rt.alloc();
-    let image = image(
-        heap,
-        8,
-        &TWO_FILES,
-    )?;
+    let image = image(heap, 8, &TWO_FILES)?;
     let text = catalogue(heap, &image)?;
     assert!(rt; text.as_str() == TWO_FILES_TEXT);
     Ok(())

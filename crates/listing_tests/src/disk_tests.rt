@@ -22,12 +22,7 @@ fn disk(heap: Global, entries: &[&[u8; 26]], place: usize, byte: u8) -> Result<S
 fn a_catalogue_of_a_disk(rt: HostRuntime) -> Result<(), Fail> {
     let heap = rt.alloc();
     // block 5, whose second sector is bad, holds no directory
-    let disk = disk(
-        heap,
-        &TWO_FILES,
-        513 * 15 + 512,
-        1,
-    )?;
+    let disk = disk(heap, &TWO_FILES, 513 * 15 + 512, 1)?;
     let text = catalogue(heap, &disk)?;
     assert!(rt; text.as_str() == TWO_FILES_TEXT);
     Ok(())

@@ -20,11 +20,7 @@ Found by its stem; no live file has that whole name.
 #[test]
 fn found_by_whole_name_and_by_stem(rt: HostRuntime) -> Result<(), Fail> {
     let heap = rt.alloc();
-    let image = image(
-        heap,
-        8,
-        &TWO_FILES,
-    )?;
+    let image = image(heap, 8, &TWO_FILES)?;
     for (name, expected) in [
         (&b"LETTERH"[..], LETTER_ROW),
         (&b"LETTERH\x03z"[..], LETTER_ROW),

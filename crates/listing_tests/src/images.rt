@@ -35,8 +35,14 @@ pub(crate) const BLOCKS_LEFT: &[u8; 26] =
     b"BLOCKS LEFT\x03\x01\x05\x00\x00\x00\x03\x00\x00\x00\x00\x00\x54\x02\x1d";
 
 // A pack of two live files, and its catalogue.
-pub(crate) const TWO_FILES: [&[u8; 26]; 6] =
-    [VOLUME, BOOT, DIRECTORY, LETTER_H, LOG_A, BLOCKS_LEFT];
+pub(crate) const TWO_FILES: [&[u8; 26]; 6] = [
+    VOLUME,
+    BOOT,
+    DIRECTORY,
+    LETTER_H,
+    LOG_A,
+    BLOCKS_LEFT,
+];
 
 pub(crate) const TWO_FILES_TEXT: &str = "Volume TEST: 8 blocks, 1 directory block, dated 1984-02-29.
 entry  name          state    attributes  first   room    length  date
