@@ -1,9 +1,8 @@
 -- What the options of a format write: spaces up to a width, zeros before a number, hexadecimal. Assumes nothing.
-use Rattle.std.proofs.Common.{◌≡◌, ℕ, zero, suc, ◌+◌, ◌-◌, ◌/◌, ◌%◌, ◌^◌, ◌<◌, ◌≤◌, Bool, true, false, cond, eqb, leb, List, [], ◌∷◌, ◌++◌, length, IfOk, OnOk, Some, Ok, Err, Result, replicate, codes, decimal, String, string_bytes, sym, refl, ap, subst, ◌∙◌, append-nil, inl, inr, arith, rules}
-use Rattle.std.proofs.lemmas.Bool.{lt-ltb, le-ltb, leb-true, ne_eqb, and_parts, cases_lt}
+use Rattle.std.proofs.Common.{◌≡◌, ℕ, zero, suc, ◌-◌, ◌/◌, ◌%◌, ◌^◌, ◌<◌, ◌≤◌, Bool, true, false, cond, eqb, leb, List, [], ◌∷◌, ◌++◌, length, IfOk, OnOk, Some, Ok, Err, Result, replicate, codes, decimal, String, string_bytes, sym, refl, ap, subst, ◌∙◌, append-nil, arith, rules}
+use Rattle.std.proofs.lemmas.Bool.{lt-ltb, leb-true, ne_eqb, and_parts}
 use Rattle.std.proofs.lemmas.Bool.Decides.{nat_tests}
-use Rattle.std.proofs.lemmas.Fmt.{decimal_digit, decimal_step, decimal_nonempty, hex_byte as hex_byte_written}
-use Rattle.std.proofs.lemmas.List.{length-append}
+use Rattle.std.proofs.lemmas.Fmt.{hex_byte as hex_byte_written}
 use Rattle.std.specs.Fmt.{char_count, format_spec, padded, padded_integral, styled_decimal, styled_digits_output, styled_text, take_chars, digits, digits_output, AppendsText, ◌++?◌}
 use Rattle.std.specs.List.{All, repeat}
 use Rattle.std.specs.Str.{IsAscii}

@@ -7,34 +7,24 @@ use arguments::{Command, Medium, USAGE, complaint, read_arguments};
 use blocks::{BlockDevice, Image};
 use listing::{Failure, catalogue, find};
 use sectors::SectorDisk;
-use std::alloc::Global;
+use std::alloc::{AllocError, Global};
 use std::process::ExitCode;
 use std::{env, fs};
 
-// Says on standard error why nothing was done. The error ends the program without success.
-fn refuse(rt: &HostRuntime, line: &str) -> anyhow::Result<anyhow::Error> {
-    rt.eprintln(line)?;
-    Ok(anyhow!("refused"))
-}
-
-// Prints what a command made of a file, or says why it made nothing.
-fn answer(rt: &HostRuntime, path: &str, made: Result<String, Failure>) -> anyhow::Result<()> {
-    match made {
-        Ok(text) => Ok(rt.print(text)?),
-        Err(failure) => {
-            let line = complaint(rt.alloc(), path, failure)?;
-            Err(refuse(rt, line.as_str())?)
-        }
-    }
-}
-
-// The bytes of a file, or a line that says why it cannot be read.
-fn read_file(rt: &HostRuntime, path: &str) -> anyhow::Result<Vec<u8>> {
-    match fs::read(rt, path) {
-        Ok(bytes) => Ok(bytes),
+// What was made; or, where nothing was, the line that says why on standard error, and an error that ends the program
+// without success.
+fn made<T, E: Drop, L: FnOnce(E) -> Result<String, AllocError>>(
+    rt: &HostRuntime,
+    tried: Result<T, E>,
+    line: L,
+) -> anyhow::Result<T>
+    requires { L.IsAlwaysCallable line }
+{
+    match tried {
+        Ok(value) => Ok(value),
         Err(e) => {
-            eprintln!(rt; "pack: {path}: the file cannot be read: {e}")?;
-            Err(anyhow!("unreadable"))
+            rt.eprintln(line(e)?)?;
+            Err(anyhow!("nothing was made"))
         }
     }
 }
@@ -69,8 +59,16 @@ fn text_in(
 
 // Reads a file, does a task on the pack in it, and prints what that made.
 fn run_on(rt: &HostRuntime, medium: Medium, path: &str, task: Task<'_>) -> anyhow::Result<()> {
-    let bytes = read_file(rt, path)?;
-    answer(rt, path, text_in(rt.alloc(), medium, bytes, task))
+    let heap = rt.alloc();
+    let read = fs::read(rt, path);
+    let bytes = made(
+        rt,
+        read,
+        |e| format!(in heap; "pack: {path}: the file cannot be read: {e}"),
+    )?;
+    let text = text_in(heap, medium, bytes, task);
+    let text = made(rt, text, |failure| complaint(heap, path, failure))?;
+    Ok(rt.print(text)?)
 }
 
 fn run(rt: &HostRuntime, command: Command<'_>) -> anyhow::Result<()> {
@@ -84,13 +82,13 @@ fn run(rt: &HostRuntime, command: Command<'_>) -> anyhow::Result<()> {
 // Does what the arguments ask for, or says why not.
 fn perform(rt: &HostRuntime) -> anyhow::Result<()> {
     let args: Vec<String> = env::args(rt)?.skip(1).collect(rt.alloc())?;
-    match read_arguments(args.as_slice()) {
-        Ok(command) => run(rt, command),
-        Err(misuse) => {
-            let line = format!(in rt.alloc(); "pack: {misuse}")?;
-            Err(refuse(rt, line.as_str())?)
-        }
-    }
+    let command = read_arguments(args.as_slice());
+    let command = made(
+        rt,
+        command,
+        |misuse| format!(in rt.alloc(); "pack: {misuse}"),
+    )?;
+    run(rt, command)
 }
 
 // The exit status alone: an error returned from `main` would be printed, and what there is to say was said.
