@@ -11,6 +11,7 @@ use Rattle.entry.specs.Fields.{bit}
 use Rattle.entry.specs.declared.attributes.Attribute.{Attribute}
 use Rattle.entry.specs.declared.attributes.Attribute.TheVariants.{Locked, WriteProtected, ReadProtected, User, System, Deleted, ExecuteProtected, BlocksLeft}
 use Rattle.lines.specs.Rows.{letters}
+use Rattle.lines.proofs.Padding.{either-ascii}
 
 abbrev pub shown : ℕ → Attribute × ℕ → List ℕ
 shown byte p = cond (bit (bit_of p.0) byte) (p.1 ∷ []) (45 ∷ [])
@@ -25,15 +26,12 @@ table-small = search rules
 pub lettered : (byte : ℕ) → flat_map (shown byte) table ≡ letters byte
 lettered byte = simp append-nil
 
-either-ascii : (t : Bool) (c : ℕ) → c < 128 → IsAscii (cond t (c ∷ []) (45 ∷ []))
-either-ascii true c h = IsAscii-cons c [] h IsAscii-nil
-either-ascii false c h = IsAscii-cons 45 [] (omega arith) IsAscii-nil
-
 pub shown-ascii : (byte : ℕ) (ps : List (Attribute × ℕ)) → All (λ p. p.1 < 128) ps → IsAscii (flat_map (shown byte) ps)
 shown-ascii byte [] h = IsAscii-nil
 shown-ascii byte (p ∷ ps) h =
     IsAscii-append (shown byte p) (flat_map (shown byte) ps)
-    (either-ascii (bit (bit_of p.0) byte) p.1 (All-get_or (λ q. q.1 < 128) (p ∷ ps) 0 p (omega arith) h))
+    (either-ascii (bit (bit_of p.0) byte) (p.1 ∷ []) (45 ∷ [])
+    (IsAscii-cons p.1 [] (All-get_or (λ q. q.1 < 128) (p ∷ ps) 0 p (omega arith) h) IsAscii-nil) (IsAscii-cons 45 [] (omega arith) IsAscii-nil))
     (shown-ascii byte ps (All-drop (λ q. q.1 < 128) 1 (p ∷ ps) h))
 
 -- the character that is pushed: the letter or the dash

@@ -86,7 +86,7 @@ text-is (Ok t) x y e h = h ∙ e
 text-is (Err d) x y e h = tt
 
 -- the texts that stand in columns
-either-ascii : (t : Bool) (xs ys : List ℕ) → IsAscii xs → IsAscii ys → IsAscii (cond t xs ys)
+pub either-ascii : (t : Bool) (xs ys : List ℕ) → IsAscii xs → IsAscii ys → IsAscii (cond t xs ys)
 either-ascii true xs ys p q = p
 either-ascii false xs ys p q = q
 

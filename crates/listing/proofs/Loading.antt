@@ -1,5 +1,5 @@
 -- The directory read block by block, one block on and at the end, and how long it is. Assumes nothing.
-use Rattle.std.proofs.Common.{◌≡◌, ℕ, suc, ◌+◌, ◌-◌, ◌<◌, ◌≤◌, Bool, true, false, cond, eqb, ltb, leb, List, ◌++◌, length, Some, None, Ok, Err, Option, Result, sym, refl, ap, ◌∙◌, subst, arith}
+use Rattle.std.proofs.Common.{◌≡◌, ℕ, suc, ◌+◌, ◌-◌, ◌<◌, ◌≤◌, Bool, true, false, cond, eqb, ltb, leb, List, [], ◌∷◌, ◌++◌, length, Some, None, Ok, Err, Option, Result, sym, refl, ap, ◌∙◌, ap₂, subst, arith}
 use Rattle.std.proofs.lemmas.List.{take_all}
 use Rattle.std.proofs.lemmas.Bool.{and_parts, le-leb, leb-true, ltb-true}
 use Rattle.std.specs.Str.{bytes_eq}
@@ -73,3 +73,12 @@ module _ (d : Device) (first : List ℕ) (least : 2 ≤ size_of d) (read : Ok fi
 
 pub refused : (f : Failure) (refusal : Refusal) (o : Result Read Refusal) → f ≡ Refused refusal → Err refusal ≡ o → Loads (Err f) o
 refused f refusal o e h = subst (λ x. Loads (Err x) o) (sym e) h
+
+-- what was told of the volume's entry, as it stands in the first block
+pub volume-told : (d : Device) (size : ℕ) (entry first : List ℕ) (told t : Bool) → size ≡ size_of d → entry ≡ entry_at first 0
+    → told ≡ volume_holds size entry → told ≡ t → volume_holds (size_of d) (entry_at first 0) ≡ t
+volume-told d size entry first told t s e h is = ap₂ volume_holds (sym s) (sym e) ∙ sym h ∙ is
+
+-- the first block alone
+pub first-joined : (items new : List (List ℕ)) (first : List ℕ) → items ≡ new ++ (first ∷ []) → new ≡ [] → items ≡ first ∷ []
+first-joined items new first i n = i ∙ ap (λ l. l ++ (first ∷ [])) n

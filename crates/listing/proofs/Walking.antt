@@ -37,8 +37,8 @@ pub left-missed : (bytes : List ℕ) (d n : ℕ) (r : Option ℕ) → n ≡ d �
 left-missed bytes d n r e f none =
     ap (left_walked bytes n) (sym none ∙ f) ∙ ap (directory_walked bytes) e
 
-pub left-found : (bytes : List ℕ) (d n left : ℕ) (r files : Option ℕ) → n ≡ d → r ≡ first_that is_left bytes 3 (39 * n - 3) → r ≡ Some left
-    → files ≡ first_that is_unreadable bytes 3 (left - 3) → files_walked d left files ≡ directory_walked bytes d
-left-found bytes d n left r files e f some g =
-    ap (files_walked d left) g ∙ ap (λ k. files_walked k left (first_that is_unreadable bytes 3 (left - 3))) (sym e)
+pub left-found : (bytes : List ℕ) (d n left : ℕ) (r files found : Option ℕ) → n ≡ d → r ≡ first_that is_left bytes 3 (39 * n - 3) → r ≡ Some left
+    → files ≡ first_that is_unreadable bytes 3 (left - 3) → files ≡ found → files_walked d left found ≡ directory_walked bytes d
+left-found bytes d n left r files found e f some g is =
+    ap (files_walked d left) (sym is ∙ g) ∙ ap (λ k. files_walked k left (first_that is_unreadable bytes 3 (left - 3))) (sym e)
     ∙ ap (left_walked bytes n) (sym some ∙ f) ∙ ap (directory_walked bytes) e

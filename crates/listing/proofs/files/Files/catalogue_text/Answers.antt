@@ -1,7 +1,8 @@
 use Rattle.std.proofs.Common.{ap, ◌∙◌}
 use Rattle.listing.specs.Catalogues.{catalogue_text, left_text, volume_text}
 use Rattle.listing.specs.Walked.{bytes_of, found_in}
-use Rattle.listing.proofs.Pieces.{page-is, text-is}
+use Rattle.lines.proofs.Padding.{text-is}
+use Rattle.listing.proofs.Pieces.{page-is}
 use Rattle.listing.proofs.files.Files.catalogue_text.Goals as goal
 
 pub returns : goal.returns

@@ -1,6 +1,6 @@
-use Rattle.std.proofs.Common.{◌*◌, length, sym, ap, ◌∙◌, arith, rules}
+use Rattle.std.proofs.Common.{◌*◌, length, None, arith, rules}
 use Rattle.std.specs.List.{concat}
-use Rattle.listing.specs.Walks.{files_walked, is_left, is_unreadable}
+use Rattle.listing.specs.Walks.{is_left, is_unreadable}
 use Rattle.listing.proofs.Walking.{first-is, left-found, left-missed}
 use Rattle.listing.proofs.files.Files.of.Goals as goal
 
@@ -18,7 +18,7 @@ returns-in-None-clause-value c =
     let end = 39 * c.size-end.result in
     let left = first-is _ is_left bytes 3 end c.first.result c.first.ensures (λ x b t. search rules) (omega (arith, c.size-end.ensures, c.args.directory.some)) in
     let files = first-is _ is_unreadable bytes 3 c.in-Some.left c.first-2.result c.first-2.ensures (λ x b t. search rules) (search rules) in
-    ap (files_walked count c.in-Some.left) (sym c.in-None.is) ∙ left-found bytes count c.size-end.result c.in-Some.left c.first.result c.first-2.result c.size-end.ensures left c.in-Some.is files
+    left-found bytes count c.size-end.result c.in-Some.left c.first.result c.first-2.result None c.size-end.ensures left c.in-Some.is files c.in-None.is
 
 pub returns-in-Some-first-clause-value : goal.returns-in-Some-first-clause-value
 returns-in-Some-first-clause-value c =
@@ -27,4 +27,4 @@ returns-in-Some-first-clause-value c =
     let end = 39 * c.size-end.result in
     let left = first-is _ is_left bytes 3 end c.first.result c.first.ensures (λ x b t. search rules) (omega (arith, c.size-end.ensures, c.args.directory.some)) in
     let files = first-is _ is_unreadable bytes 3 c.in-Some.left c.first-2.result c.first-2.ensures (λ x b t. search rules) (search rules) in
-    ap (files_walked count c.in-Some.left) (sym c.in-Some-first.is) ∙ left-found bytes count c.size-end.result c.in-Some.left c.first.result c.first-2.result c.size-end.ensures left c.in-Some.is files
+    left-found bytes count c.size-end.result c.in-Some.left c.first.result c.first-2.result _ c.size-end.ensures left c.in-Some.is files c.in-Some-first.is
