@@ -1,7 +1,6 @@
 pub mod Carrying
 pub mod Firsts
 pub mod Judging
-pub mod Naming
 pub mod Passing
 pub mod Placing
 pub mod Matching
