@@ -7,6 +7,8 @@ use Rattle.refusal.specs.declared.Refusal.{Refusal}
 use Rattle.blocks.specs.Devices.{Device, block_at, in_range, mark_at, mark_fault, outcome, read_fault, read_out, refusal_of, size_of}
 use Rattle.blocks.specs.declared.faults.Fault.{Fault}
 use Rattle.blocks.specs.declared.faults.Fault.TheVariants.{OutOfRange}
+use Rattle.entry.specs.Fields.{entry_in}
+use Rattle.directory.specs.Entries.{entry_at, holder_of}
 
 granted : (o : Option Fault) (done : Unit {0}) → Ok done ≡ outcome o → o ≡ None
 granted None done h = refl
@@ -53,3 +55,14 @@ held d b before after done wide reply filled =
     let same : after ≡ block_at d b = filled ∙ ap (λ o. read_out o (block_at d b) before) none in
     let range = in-range d b (length before) none in
     record { none = none; same = same; full = range.1; long = ap length same ∙ wide b range.0 }
+
+-- that these are the bytes of entry e, and that its block can be read through a work block of this length
+pub record IsRead (d : Device) (e len : ℕ) (bytes : List ℕ) : Type 0 where
+  pub none : read_fault d (holder_of e) len ≡ None
+  pub same : bytes ≡ entry_at d e
+
+pub entry-read : (d : Device) (e b len : ℕ) (before after bytes : List ℕ) → b ≡ holder_of e → Held d b before after → length before ≡ len → bytes ≡ entry_in after e → IsRead d e len bytes
+entry-read d e b len before after bytes at held long is = record {
+  none = ap (λ k. read_fault d k len) (sym at) ∙ ap (read_fault d b) (sym long) ∙ held.none;
+  same = is ∙ ap (λ block. entry_in block e) (held.same ∙ ap (block_at d) at);
+}

@@ -1,14 +1,13 @@
 -- The search, one entry on and at its end, and what its answer says of the files. Assumes nothing.
-use Rattle.std.proofs.Common.{◌≡◌, ℕ, ◌+◌, ◌-◌, ◌*◌, ◌<◌, ◌≤◌, Bool, true, false, cond, not, ◌||◌, ◌⊎◌, List, length, is_some, Some, None, Ok, Err, Option, Result, sym, refl, ap, ◌∙◌, subst, inl, inr, arith}
+use Rattle.std.proofs.Common.{◌≡◌, ℕ, ◌+◌, ◌-◌, ◌*◌, ◌<◌, ◌≤◌, Bool, true, false, cond, not, ◌||◌, ◌⊎◌, List, is_some, Some, None, Ok, Err, Option, Result, sym, refl, ap, ◌∙◌, subst, inl, inr, arith}
 use Rattle.std.proofs.lemmas.Bool.{and_from, and_parts, cases_eq, cases_lt, not_from_false, not-true, or_from, or_left, or_parts, or_right, true≢false}
 use Rattle.refusal.specs.declared.Refusal.{Refusal}
-use Rattle.blocks.specs.Devices.{Device, block_at, read_fault, refusal_of}
+use Rattle.blocks.specs.Devices.{Device, read_fault, refusal_of}
 use Rattle.blocks.specs.declared.faults.Fault.{Fault}
-use Rattle.entry.specs.Fields.{entry_in}
 use Rattle.directory.specs.Entries.{entry_at, holder_of}
 use Rattle.directory.specs.Lookups.{FirstMatch, Match, Readable, LookupLaw, Unread, ends_at, first_that, found_at, is_blocks_left, is_deleted, is_match, said, said_at, lookup_reply}
 use Rattle.directory.specs.declared.lookups.Found.{Found}
-use Rattle.directory.proofs.Carrying.{Held}
+use Rattle.directory.proofs.Carrying.{IsRead}
 use Rattle.directory.proofs.Firsts.{IsFirst, first-here, first-is, first_on}
 
 -- what is left from entry e on gives what the whole search gives
@@ -117,33 +116,27 @@ module _ (fits : List ℕ → Bool) (d : Device) (directory len : ℕ) where
         sym (ap (said_at d e) is)
         ∙ ended (or_left (is_some (read_fault d (holder_of e) len)) (is_blocks_left (entry_at d e) || is_match fits (entry_at d e)) (ap is_some is))
 
-    module _ (b : ℕ) (before after bytes : List ℕ) (at : b ≡ holder_of e) (held : Held d b before after) (long : length before ≡ len) (is : bytes ≡ entry_in after e) where
-      none : read_fault d (holder_of e) len ≡ None
-      none = ap (λ k. read_fault d k len) (sym at) ∙ ap (read_fault d b) (sym long) ∙ held.none
-
-      same : bytes ≡ entry_at d e
-      same = is ∙ ap (λ block. entry_in block e) (held.same ∙ ap (block_at d) at)
-
+    module _ (bytes : List ℕ) (read : IsRead d e len bytes) where
       pub at-blocks-left : is_blocks_left bytes ≡ true → Ok None ≡ lookup_reply fits d directory len
       at-blocks-left t =
-          let left : is_blocks_left (entry_at d e) ≡ true = ap is_blocks_left (sym same) ∙ t in
-          sym (ap (said_at d e) none ∙ ap (λ b. cond b (Ok None) (Ok (Some (found_at d e)))) left)
+          let left : is_blocks_left (entry_at d e) ≡ true = ap is_blocks_left (sym read.same) ∙ t in
+          sym (ap (said_at d e) read.none ∙ ap (λ b. cond b (Ok None) (Ok (Some (found_at d e)))) left)
           ∙ ended (or_right (is_some (read_fault d (holder_of e) len)) (is_blocks_left (entry_at d e) || is_match fits (entry_at d e))
           (or_left (is_blocks_left (entry_at d e)) (is_match fits (entry_at d e)) left))
 
       pub at-match : is_blocks_left bytes ≡ false → is_match fits bytes ≡ true → Ok (Some (record { number = e; entry = record { bytes = bytes } })) ≡ lookup_reply fits d directory len
       at-match f t =
-          let left : is_blocks_left (entry_at d e) ≡ false = ap is_blocks_left (sym same) ∙ f in
-          ap (λ b. Ok (Some (record { number = e; entry = record { bytes = b } }))) same
-          ∙ sym (ap (said_at d e) none ∙ ap (λ b. cond b (Ok None) (Ok (Some (found_at d e)))) left)
+          let left : is_blocks_left (entry_at d e) ≡ false = ap is_blocks_left (sym read.same) ∙ f in
+          ap (λ b. Ok (Some (record { number = e; entry = record { bytes = b } }))) read.same
+          ∙ sym (ap (said_at d e) read.none ∙ ap (λ b. cond b (Ok None) (Ok (Some (found_at d e)))) left)
           ∙ ended (or_right (is_some (read_fault d (holder_of e) len)) (is_blocks_left (entry_at d e) || is_match fits (entry_at d e))
-          (or_right (is_blocks_left (entry_at d e)) (is_match fits (entry_at d e)) (ap (is_match fits) (sym same) ∙ t)))
+          (or_right (is_blocks_left (entry_at d e)) (is_match fits (entry_at d e)) (ap (is_match fits) (sym read.same) ∙ t)))
 
       pub past : is_blocks_left bytes ≡ false → is_match fits bytes ≡ false → Ahead fits d directory len (e + 1)
       past f t =
           first_on (ends_at fits d len) e (39 * directory) h
-          (or_from (is_some (read_fault d (holder_of e) len)) (is_blocks_left (entry_at d e) || is_match fits (entry_at d e)) (ap is_some none)
-          (or_from (is_blocks_left (entry_at d e)) (is_match fits (entry_at d e)) (ap is_blocks_left (sym same) ∙ f) (ap (is_match fits) (sym same) ∙ t)))
+          (or_from (is_some (read_fault d (holder_of e) len)) (is_blocks_left (entry_at d e) || is_match fits (entry_at d e)) (ap is_some read.none)
+          (or_from (is_blocks_left (entry_at d e)) (is_match fits (entry_at d e)) (ap is_blocks_left (sym read.same) ∙ f) (ap (is_match fits) (sym read.same) ∙ t)))
           ∙ ahead
 
   pub at_last : (e : ℕ) → Ahead fits d directory len e → 39 * directory ≤ e → Ok None ≡ lookup_reply fits d directory len
