@@ -11,6 +11,8 @@ use Rattle.directory.specs.Judgements.{first_unread, layout_fault, unless_fault,
 use Rattle.directory.proofs.Carrying.{Held, held, passed-on, refused}
 use Rattle.directory.proofs.Judging.{layout-law}
 use Rattle.directory.proofs.Verdicts.{bad-volume, good-volume, judgement-law, one_block, unread-first, wrong-length}
+use Rattle.directory.proofs.judgement.judge.Given.{Over}
+use Rattle.directory.proofs.judgement.judge.Goals.{In_ok-block, In_ok-read}
 use Rattle.directory.proofs.judgement.judge.Goals as goal
 
 -- the volume's entry, of the block that was read, and its test
@@ -20,6 +22,16 @@ module _ (d : Device) (before after volume : List ℕ) (h : Held d 1 before afte
 
   test-is : (size : ℕ) (test : Bool) → size ≡ blocks_of d → test ≡ volume_holds size volume → volume_holds (blocks_of d) (entry_at d 0) ≡ test
   test-is size test sized tested = sym (tested ∙ ap₂ volume_holds sized volume-is)
+
+-- the block in hand is the work block
+chunk : (g : Over) (c : In_ok-block g) → IsWholeChunk c.args.work.now c.in_ok-block.block.now 1024
+chunk g c = MatchOption-at_some _ _ c.in_ok-block.block c.in_ok-block.ensures.ok_part c.as_mut_array.ensures.cases
+
+-- block 1 was read into it
+block_1 : (g : Over) (c : In_ok-read g) → Held (g.D.BlockDevice.meaning c.args.device.now) 1 c.in_ok-block.block.now c.read.new.buffer
+block_1 g c =
+    held (g.D.BlockDevice.meaning c.args.device.now) 1 c.in_ok-block.block.now c.read.new.buffer c.in_ok-read.field-0
+    (g.met.D.BlockDevice.wide c.args.device.now) c.in_ok-read.ensures.reply c.in_ok-read.ensures.filled
 
 pub returns-in_err-block : goal.returns-in_err-block
 returns-in_err-block g c =
@@ -35,7 +47,7 @@ pub returns-then-size-lt2 : goal.returns-then-size-lt2
 returns-then-size-lt2 g c =
     let d = g.D.BlockDevice.meaning c.args.device.now in
     let len = length c.args.work.now in
-    let whole : IsWholeChunk c.args.work.now c.in_ok-block.block.now 1024 = MatchOption-at_some _ _ c.in_ok-block.block c.in_ok-block.ensures.ok_part c.as_mut_array.ensures.cases in
+    let whole = chunk g (goal.at.returns-then-size-lt2 g c).In_ok-block in
     let reply = one_block d len whole.long (omega (arith, c.size.ensures, c.if-size-lt2.true)) in
     record { reply = reply; law = judgement-law d len _ reply; layout = layout-law d; work = ap length whole.same }
 
@@ -43,7 +55,7 @@ pub returns-in_err-read : goal.returns-in_err-read
 returns-in_err-read g c =
     let d = g.D.BlockDevice.meaning c.args.device.now in
     let len = length c.args.work.now in
-    let whole : IsWholeChunk c.args.work.now c.in_ok-block.block.now 1024 = MatchOption-at_some _ _ c.in_ok-block.block c.in_ok-block.ensures.ok_part c.as_mut_array.ensures.cases in
+    let whole = chunk g (goal.at.returns-in_err-read g c).In_ok-block in
     let f = c.in_err-read.field-0.0 in
     let full : length c.in_ok-block.block.now ≡ 1024 = ap length whole.same ∙ whole.long in
     let met = ap (read_fault d 1) (sym full) ∙ refused (read_fault d 1 (length c.in_ok-block.block.now)) f c.in_err-read.ensures.reply in
@@ -56,8 +68,8 @@ returns-then-not-volume_holds g c =
     let d = g.D.BlockDevice.meaning c.args.device.now in
     let len = length c.args.work.now in
     let block = c.in_ok-block.block.now in
-    let whole : IsWholeChunk c.args.work.now block 1024 = MatchOption-at_some _ _ c.in_ok-block.block c.in_ok-block.ensures.ok_part c.as_mut_array.ensures.cases in
-    let h = held d 1 block c.read.new.buffer c.in_ok-read.field-0 (g.met.D.BlockDevice.wide c.args.device.now) c.in_ok-read.ensures.reply c.in_ok-read.ensures.filled in
+    let whole = chunk g (goal.at.returns-then-not-volume_holds g c).In_ok-block in
+    let h = block_1 g (goal.at.returns-then-not-volume_holds g c).In_ok-read in
     let test = test-is d block c.read.new.buffer c.from_block-volume.result.bytes h c.from_block-volume.ensures c.size-2.result c.volume_holds.result c.size-2.ensures c.volume_holds.ensures in
     let reply = bad-volume d len whole.long (omega (arith, c.size.ensures, c.if-size-lt2.false)) (ap (read_fault d 1) (sym h.full) ∙ h.none) (test ∙ c.if-not-volume_holds.true) in
     record { reply = reply; law = judgement-law d len _ reply; layout = layout-law d; work = c.read.auto.buffer ∙ ap length whole.same }
@@ -66,7 +78,7 @@ pub judge_files-requires : goal.judge_files-requires
 judge_files-requires g c =
     let d = g.D.BlockDevice.meaning c.args.device.now in
     let block = c.in_ok-block.block.now in
-    let h = held d 1 block c.read.new.buffer c.in_ok-read.field-0 (g.met.D.BlockDevice.wide c.args.device.now) c.in_ok-read.ensures.reply c.in_ok-read.ensures.filled in
+    let h = block_1 g (goal.at.judge_files-requires g c).In_ok-read in
     let volume = volume-is d block c.read.new.buffer c.from_block-volume.result.bytes h c.from_block-volume.ensures in
     record {
       first = h.same;
@@ -81,8 +93,8 @@ returns-clause-reply g c =
     let d = g.D.BlockDevice.meaning c.args.device.now in
     let len = length c.args.work.now in
     let block = c.in_ok-block.block.now in
-    let whole : IsWholeChunk c.args.work.now block 1024 = MatchOption-at_some _ _ c.in_ok-block.block c.in_ok-block.ensures.ok_part c.as_mut_array.ensures.cases in
-    let h = held d 1 block c.read.new.buffer c.in_ok-read.field-0 (g.met.D.BlockDevice.wide c.args.device.now) c.in_ok-read.ensures.reply c.in_ok-read.ensures.filled in
+    let whole = chunk g (goal.at.returns-clause-reply g c).In_ok-block in
+    let h = block_1 g (goal.at.returns-clause-reply g c).In_ok-read in
     let test = test-is d block c.read.new.buffer c.from_block-volume.result.bytes h c.from_block-volume.ensures c.size-2.result c.volume_holds.result c.size-2.ensures c.volume_holds.ensures in
     let directory = c.directory_blocks.ensures ∙ ap directory_of (volume-is d block c.read.new.buffer c.from_block-volume.result.bytes h c.from_block-volume.ensures) in
     c.judge_files.ensures ∙ ap (λ n. unless_fault (first_unread d 2 (n - 1)) (verdict d (layout_fault d))) directory
