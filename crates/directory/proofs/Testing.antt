@@ -1,11 +1,12 @@
 -- What the tests of an entry decide: an entry holds exactly if its test says so. Assumes nothing.
-use Rattle.std.proofs.Common.{◌≡◌, ℕ, zero, suc, ◌+◌, ◌-◌, ◌*◌, ◌/◌, ◌≤◌, true, false, cond, ◌&&◌, ◌||◌, eqb, leb, ◌⊎◌, List, [], ◌∷◌, get_or, is_some, Some, None, sym, refl, ap, ◌∙◌, ap₂, inl, inr, arith}
-use Rattle.std.proofs.lemmas.Bool.{and_from, and_parts, cases_Bool, cases_eq, cond-false, cond-true, eq-eqb, eqb-true, le-leb, leb-true, ne_eqb, or_cases, or_left, or_right, true≢false}
+use Rattle.std.proofs.Common.{◌≡◌, ℕ, zero, suc, ◌+◌, ◌-◌, ◌*◌, ◌/◌, ◌≤◌, true, false, cond, ◌||◌, eqb, ◌⊎◌, List, [], ◌∷◌, get_or, is_some, sym, refl, ap, ◌∙◌, ap₂, inl, inr, arith}
+use Rattle.std.proofs.lemmas.Bool.{and_from, and_parts, cases_Bool, cases_eq, cond-false, cond-true, eq-eqb, eqb-true, or_cases, or_left, or_right, true≢false}
+use Rattle.std.proofs.lemmas.Bool.Decides.{nat_tests}
 use Rattle.std.proofs.lemmas.Slice.Eq.{bytes_eq-Decides}
 use Rattle.std.specs.List.{list_any}
 use Rattle.std.specs.Str.{bytes_eq}
 use Rattle.blocks.specs.Devices.{Device, size_of}
-use Rattle.entry.specs.Fields.{check_bytes, check_of, first_of, last_of, name_of, room_of, used_of}
+use Rattle.entry.specs.Fields.{check_bytes, check_of, first_of, last_of, name_of, used_of}
 use Rattle.entry.specs.Lengths.{blocks_for, length_of, split}
 use Rattle.directory.specs.Entries.{entry_at}
 use Rattle.directory.specs.Judgements.{Holds, file_holds, has_etx, holds, is_placed, later_holds, live_holds, volume_holds}
@@ -35,55 +36,50 @@ etx-there (b ∷ rest) (suc i) h = or_right (eqb b 3) (has_etx rest) (etx-there 
 module _ (d : Device) where
   pub volume-follows : volume_holds (size_of d) (entry_at d 0) ≡ true → VolumeFollows d
   volume-follows h =
-      let p = and_parts (leb 2 (size_of d)) _ h in
-      let q = and_parts (bytes_eq (check_of (entry_at d 0)) check_bytes) _ p.1 in
-      let r = and_parts (leb 1 (directory_blocks d)) _ q.1 in
-      let s = and_parts (leb (directory_blocks d + 1) (pack_blocks d)) _ r.1 in
+      let check : bytes_eq (check_of (entry_at d 0)) check_bytes ≡ true = grind (arith, nat_tests) in
       record {
-        blocks = leb-true 2 (size_of d) p.0;
-        check = (bytes_eq-Decides (check_of (entry_at d 0)) check_bytes).0 q.0;
-        some = leb-true 1 (directory_blocks d) r.0;
-        least = leb-true (directory_blocks d + 1) (pack_blocks d) s.0;
-        most = leb-true (pack_blocks d) (size_of d) s.1;
+        blocks = grind (arith, nat_tests);
+        check = (bytes_eq-Decides (check_of (entry_at d 0)) check_bytes).0 check;
+        some = grind (arith, nat_tests);
+        least = grind (arith, nat_tests);
+        most = grind (arith, nat_tests);
       }
 
   volume-holds : VolumeFollows d → volume_holds (size_of d) (entry_at d 0) ≡ true
   volume-holds v =
-      and_from (leb 2 (size_of d)) _ (le-leb 2 (size_of d) v.blocks) (and_from (bytes_eq (check_of (entry_at d 0)) check_bytes) _ ((bytes_eq-Decides (check_of (entry_at d 0)) check_bytes).1 v.check)
-      (and_from (leb 1 (directory_blocks d)) _ (le-leb 1 (directory_blocks d) v.some)
-      (and_from (leb (directory_blocks d + 1) (pack_blocks d)) _ (le-leb (directory_blocks d + 1) (pack_blocks d) v.least) (le-leb (pack_blocks d) (size_of d) v.most))))
+      let check = (bytes_eq-Decides (check_of (entry_at d 0)) check_bytes).1 v.check in
+      grind (arith, nat_tests, v.blocks, check, v.some, v.least, v.most)
 
 -- an entry's place
 placed : (first room : ℕ) (bytes : List ℕ) → is_placed first room bytes ≡ true → Placed first room bytes
-placed first room bytes h =
-    let p = and_parts (eqb (first_of bytes) first) (eqb (room_of bytes) room) h in
-    record { begins = eqb-true (first_of bytes) first p.0; has = eqb-true (room_of bytes) room p.1 }
+placed first room bytes h = record { begins = grind (arith, nat_tests); has = grind (arith, nat_tests) }
 
 is-placed : (first room : ℕ) (bytes : List ℕ) → Placed first room bytes → is_placed first room bytes ≡ true
-is-placed first room bytes p =
-    and_from (eqb (first_of bytes) first) (eqb (room_of bytes) room) (eq-eqb (first_of bytes) first p.begins) (eq-eqb (room_of bytes) room p.has)
+is-placed first room bytes p = grind (arith, nat_tests, p.begins, p.has)
 
 -- a length
+no-last : (used last : ℕ) → used ≡ 0 → is_some (length_of used last) ≡ true → last ≡ 0
+no-last used last q h = grind (arith, nat_tests)
+
+last-within : (used last : ℕ) → (used ≡ 0 → ⊥) → is_some (length_of used last) ≡ true → (1 ≤ last) × (last ≤ 1024)
+last-within used last n h = grind (arith, nat_tests)
+
 length_some : (used last : ℕ) → is_some (length_of used last) ≡ true → IsLength used last
-length_some used last h = none (cases_eq used 0) h
+length_some used last h = by (cases_eq used 0)
   where
-    some : (leb 1 last && leb last 1024 ≡ true) ⊎ (leb 1 last && leb last 1024 ≡ false) → (used ≡ 0 → ⊥)
-        → is_some (cond (leb 1 last && leb last 1024) (Some (1024 * (used - 1) + last)) None) ≡ true → IsLength used last
-    some (inl q) n k =
-        let p = and_parts (leb 1 last) (leb last 1024) q in
-        let low = leb-true 1 last p.0 in
-        let high = leb-true last 1024 p.1 in
+    by : (used ≡ 0) ⊎ (used ≡ 0 → ⊥) → IsLength used last
+    by (inl q) = (0, ap₂ (λ a b. (a, b)) (sym q) (sym (no-last used last q h)))
+    by (inr n) =
+        let low = (last-within used last n h).0 in
+        let high = (last-within used last n h).1 in
         let u : blocks_for (1024 * (used - 1) + last) ≡ used = omega (arith, low, high, n) in
         (1024 * (used - 1) + last, ap₂ (λ a b. (a, b)) u (ap (λ k. 1024 * (used - 1) + last - 1024 * (k - 1)) u ∙ (let z : 1024 * (used - 1) + last - 1024 * (used - 1) ≡ last = omega arith in z)))
-    some (inr q) n k = absurd (true≢false (sym k ∙ ap (λ t. is_some (cond t (Some (1024 * (used - 1) + last)) None)) q))
 
-    zeros : (last ≡ 0) ⊎ (last ≡ 0 → ⊥) → used ≡ 0 → is_some {T = ℕ} (cond (eqb last 0) (Some 0) None) ≡ true → IsLength used last
-    zeros (inl q) u k = (0, ap₂ (λ a b. (a, b)) (sym u) (sym q))
-    zeros (inr q) u k = absurd (true≢false (sym k ∙ ap (λ t. is_some {T = ℕ} (cond t (Some 0) None)) (ne_eqb last 0 q)))
+none_used : (used last : ℕ) → used ≡ 0 → last ≡ 0 → is_some (length_of used last) ≡ true
+none_used used last q h = grind (arith, nat_tests)
 
-    none : (used ≡ 0) ⊎ (used ≡ 0 → ⊥) → is_some (length_of used last) ≡ true → IsLength used last
-    none (inl q) k = zeros (cases_eq last 0) q (sym (ap (λ t. is_some (cond t (cond (eqb last 0) (Some 0) None) (cond (leb 1 last && leb last 1024) (Some (1024 * (used - 1) + last)) None))) (eq-eqb used 0 q)) ∙ k)
-    none (inr q) k = some (cases_Bool (leb 1 last && leb last 1024)) q (sym (ap (λ t. is_some (cond t (cond (eqb last 0) (Some 0) None) (cond (leb 1 last && leb last 1024) (Some (1024 * (used - 1) + last)) None))) (ne_eqb used 0 q)) ∙ k)
+some_used : (used last : ℕ) → (used ≡ 0 → ⊥) → 1 ≤ last → last ≤ 1024 → is_some (length_of used last) ≡ true
+some_used used last n low high = grind (arith, nat_tests)
 
 length_has : (used last total : ℕ) → split total ≡ (used, last) → is_some (length_of used last) ≡ true
 length_has used last total h = by (cases_eq used 0)
@@ -95,23 +91,17 @@ length_has used last total h = by (cases_eq used 0)
     l = ap (λ p. p.1) h
 
     by : (used ≡ 0) ⊎ (used ≡ 0 → ⊥) → is_some (length_of used last) ≡ true
-    by (inl q) =
-        ap (λ t. is_some (cond t (cond (eqb last 0) (Some 0) None) (cond (leb 1 last && leb last 1024) (Some (1024 * (used - 1) + last)) None))) (eq-eqb used 0 q)
-        ∙ ap (λ t. is_some {T = ℕ} (cond t (Some 0) None)) (eq-eqb last 0 (omega (arith, u, l, q)))
-    by (inr q) =
-        ap (λ t. is_some (cond t (cond (eqb last 0) (Some 0) None) (cond (leb 1 last && leb last 1024) (Some (1024 * (used - 1) + last)) None))) (ne_eqb used 0 q)
-        ∙ ap (λ t. is_some (cond t (Some (1024 * (used - 1) + last)) None))
-        (and_from (leb 1 last) (leb last 1024) (le-leb 1 last (omega (arith, u, l, q))) (le-leb last 1024 (omega (arith, u, l, q))))
+    by (inl q) = none_used used last q (omega (arith, u, l, q))
+    by (inr n) = some_used used last n (omega (arith, u, l, n)) (omega (arith, u, l, n))
 
 -- a file
 live-follows : (bytes : List ℕ) → live_holds bytes ≡ true → LiveFollows bytes
-live-follows bytes h =
-    let p = and_parts (leb (used_of bytes) (room_of bytes)) _ h in
-    record { used = leb-true (used_of bytes) (room_of bytes) p.0; length = length_some (used_of bytes) (last_of bytes) p.1 }
+live-follows bytes h = record { used = grind (arith, nat_tests); length = length_some (used_of bytes) (last_of bytes) (grind (arith, nat_tests)) }
 
 live-holds : (bytes : List ℕ) → LiveFollows bytes → live_holds bytes ≡ true
 live-holds bytes l =
-    and_from (leb (used_of bytes) (room_of bytes)) _ (le-leb (used_of bytes) (room_of bytes) l.used) (length_has (used_of bytes) (last_of bytes) l.length.0 l.length.1)
+    let some = length_has (used_of bytes) (last_of bytes) l.length.0 l.length.1 in
+    grind (arith, nat_tests, some, l.used)
 
 -- of which of the four kinds an entry's number makes it
 abbrev Numbered : ℕ → Type 0
@@ -129,20 +119,16 @@ numbered e = by (cases_eq e 0) (cases_eq e 1) (cases_eq e 2)
 module _ (d : Device) (e : ℕ) where
   -- what the test is for each kind
   at-0 : e ≡ 0 → holds d e ≡ volume_holds (size_of d) (entry_at d 0)
-  at-0 q = cond-true (eqb e 0) _ _ (eq-eqb e 0 q)
+  at-0 q = grind (arith, nat_tests)
 
   at_1 : e ≡ 1 → holds d e ≡ is_placed 0 1 (entry_at d 1)
-  at_1 q = cond-false (eqb e 0) _ _ (ne_eqb e 0 (λ r. omega arith)) ∙ cond-true (eqb e 1) _ _ (eq-eqb e 1 q)
+  at_1 q = grind (arith, nat_tests)
 
   at-2 : e ≡ 2 → holds d e ≡ is_placed 1 (directory_blocks d) (entry_at d 2)
-  at-2 q =
-      cond-false (eqb e 0) _ _ (ne_eqb e 0 (λ r. omega arith)) ∙ cond-false (eqb e 1) _ _ (ne_eqb e 1 (λ r. omega arith))
-      ∙ cond-true (eqb e 2) _ _ (eq-eqb e 2 q)
+  at-2 q = grind (arith, nat_tests)
 
   pub at-later : 3 ≤ e → holds d e ≡ later_holds (pack_blocks d) (end_of (entry_at d (e - 1))) (entry_at d e)
-  at-later q =
-      cond-false (eqb e 0) _ _ (ne_eqb e 0 (λ r. omega arith)) ∙ cond-false (eqb e 1) _ _ (ne_eqb e 1 (λ r. omega arith))
-      ∙ cond-false (eqb e 2) _ _ (ne_eqb e 2 (λ r. omega arith))
+  at-later q = grind (arith, nat_tests)
 
   -- the test of an entry from 3 on says what holds of it
   module _ (low : 3 ≤ e) (h : later_holds (pack_blocks d) (end_of (entry_at d (e - 1))) (entry_at d e) ≡ true) where
