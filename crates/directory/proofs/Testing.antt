@@ -1,6 +1,6 @@
 -- What the tests of an entry decide: an entry holds exactly if its test says so. Assumes nothing.
-use Rattle.std.proofs.Common.{◌≡◌, ℕ, zero, suc, ◌+◌, ◌-◌, ◌*◌, ◌/◌, ◌≤◌, true, false, cond, ◌||◌, eqb, ◌⊎◌, List, [], ◌∷◌, get_or, is_some, sym, refl, ap, ◌∙◌, ap₂, inl, inr, arith}
-use Rattle.std.proofs.lemmas.Bool.{and_from, and_parts, cases_Bool, cases_eq, cond-false, cond-true, eq-eqb, eqb-true, or_cases, or_left, or_right, true≢false}
+use Rattle.std.proofs.Common.{◌≡◌, ℕ, zero, suc, ◌+◌, ◌-◌, ◌*◌, ◌/◌, ◌≤◌, true, false, ◌||◌, eqb, ◌⊎◌, List, [], ◌∷◌, get_or, is_some, sym, refl, ap, ◌∙◌, ap₂, inl, inr, arith}
+use Rattle.std.proofs.lemmas.Bool.{cases_eq, eq-eqb, eqb-true, or_cases, or_left, or_right, true≢false}
 use Rattle.std.proofs.lemmas.Bool.Decides.{nat_tests}
 use Rattle.std.proofs.lemmas.Slice.Eq.{bytes_eq-Decides}
 use Rattle.std.specs.List.{list_any}
@@ -133,20 +133,16 @@ module _ (d : Device) (e : ℕ) where
   -- the test of an entry from 3 on says what holds of it
   module _ (low : 3 ≤ e) (h : later_holds (pack_blocks d) (end_of (entry_at d (e - 1))) (entry_at d e) ≡ true) where
     begun : first_of (entry_at d e) ≡ end_of (entry_at d (e - 1))
-    begun = eqb-true (first_of (entry_at d e)) (end_of (entry_at d (e - 1))) (and_parts (eqb (first_of (entry_at d e)) (end_of (entry_at d (e - 1)))) _ h).0
+    begun = grind (arith, nat_tests)
 
-    rest : cond (is_blocks_left (entry_at d e)) (eqb (end_of (entry_at d e)) (pack_blocks d)) (file_holds (entry_at d e)) ≡ true
-    rest = (and_parts (eqb (first_of (entry_at d e)) (end_of (entry_at d (e - 1)))) _ h).1
+    ends : is_blocks_left (entry_at d e) ≡ true → end_of (entry_at d e) ≡ pack_blocks d
+    ends t = grind (arith, nat_tests)
 
-    file : is_blocks_left (entry_at d e) ≡ false → file_holds (entry_at d e) ≡ true
-    file t = sym (cond-false (is_blocks_left (entry_at d e)) _ _ t) ∙ rest
+    etx : is_blocks_left (entry_at d e) ≡ false → has_etx (name_of (entry_at d e)) ≡ true
+    etx t = grind (arith, nat_tests)
 
     alive : is_blocks_left (entry_at d e) ≡ false → is_deleted (entry_at d e) ≡ false → live_holds (entry_at d e) ≡ true
-    alive t live = by (or_cases (is_deleted (entry_at d e)) (live_holds (entry_at d e)) (and_parts (has_etx (name_of (entry_at d e))) _ (file t)).1)
-      where
-        by : (is_deleted (entry_at d e) ≡ true) ⊎ (live_holds (entry_at d e) ≡ true) → live_holds (entry_at d e) ≡ true
-        by (inl q) = absurd (true≢false (sym q ∙ live))
-        by (inr q) = q
+    alive t live = grind (arith, nat_tests)
 
     later-is : Holds d e
     later-is = record {
@@ -154,29 +150,24 @@ module _ (d : Device) (e : ℕ) where
       boot = λ q. absurd (omega arith);
       directory = λ q. absurd (omega arith);
       begins = λ _. begun;
-      ends = λ _ t. eqb-true (end_of (entry_at d e)) (pack_blocks d) (sym (cond-true (is_blocks_left (entry_at d e)) _ _ t) ∙ rest);
-      named = λ _ t. etx-found (name_of (entry_at d e)) (and_parts (has_etx (name_of (entry_at d e))) _ (file t)).0;
+      ends = λ _ t. ends t;
+      named = λ _ t. etx-found (name_of (entry_at d e)) (etx t);
       live = λ _ t live. live-follows (entry_at d e) (alive t live);
     }
 
   is-file : (k : Holds d e) → 3 ≤ e → is_blocks_left (entry_at d e) ≡ false → file_holds (entry_at d e) ≡ true
   is-file k low t =
-      let etx = k.named low t in
-      and_from (has_etx (name_of (entry_at d e))) _ (etx-there (name_of (entry_at d e)) etx.0 etx.1) (by (cases_Bool (is_deleted (entry_at d e))))
-    where
-      by : (is_deleted (entry_at d e) ≡ true) ⊎ (is_deleted (entry_at d e) ≡ false) → is_deleted (entry_at d e) || live_holds (entry_at d e) ≡ true
-      by (inl q) = or_left (is_deleted (entry_at d e)) _ q
-      by (inr q) = or_right (is_deleted (entry_at d e)) _ (live-holds (entry_at d e) (k.live low t q))
+      let at = k.named low t in
+      let etx = etx-there (name_of (entry_at d e)) at.0 at.1 in
+      let lives : is_deleted (entry_at d e) ≡ false → live_holds (entry_at d e) ≡ true = λ q. live-holds (entry_at d e) (k.live low t q) in
+      grind (arith, nat_tests, etx, lives)
 
   is_later : (k : Holds d e) → 3 ≤ e → later_holds (pack_blocks d) (end_of (entry_at d (e - 1))) (entry_at d e) ≡ true
   is_later k low =
-      and_from (eqb (first_of (entry_at d e)) (end_of (entry_at d (e - 1)))) _ (eq-eqb (first_of (entry_at d e)) (end_of (entry_at d (e - 1))) (k.begins low))
-      (by (cases_Bool (is_blocks_left (entry_at d e))))
-    where
-      by : (is_blocks_left (entry_at d e) ≡ true) ⊎ (is_blocks_left (entry_at d e) ≡ false)
-          → cond (is_blocks_left (entry_at d e)) (eqb (end_of (entry_at d e)) (pack_blocks d)) (file_holds (entry_at d e)) ≡ true
-      by (inl t) = cond-true (is_blocks_left (entry_at d e)) _ _ t ∙ eq-eqb (end_of (entry_at d e)) (pack_blocks d) (k.ends low t)
-      by (inr t) = cond-false (is_blocks_left (entry_at d e)) _ _ t ∙ is-file k low t
+      let begins = k.begins low in
+      let ends : is_blocks_left (entry_at d e) ≡ true → end_of (entry_at d e) ≡ pack_blocks d = k.ends low in
+      let file : is_blocks_left (entry_at d e) ≡ false → file_holds (entry_at d e) ≡ true = is-file k low in
+      grind (arith, nat_tests, begins, ends, file)
 
   -- an entry holds exactly if its test says so
   pub holds-is : holds d e ≡ true → Holds d e
