@@ -6,7 +6,7 @@ use Rattle.std.proofs.lemmas.Slice.Eq.{bytes_eq-Decides}
 use Rattle.std.specs.List.{list_any}
 use Rattle.std.specs.Str.{bytes_eq}
 use Rattle.blocks.specs.Devices.{Device, size_of}
-use Rattle.entry.specs.Fields.{check_bytes, check_of, first_of, last_of, name_of, used_of}
+use Rattle.entry.specs.Fields.{check_bytes, check_of, last_of, name_of, used_of}
 use Rattle.entry.specs.Lengths.{blocks_for, length_of, split}
 use Rattle.directory.specs.Entries.{entry_at}
 use Rattle.directory.specs.Judgements.{Holds, file_holds, has_etx, holds, is_placed, later_holds, live_holds, volume_holds}
@@ -132,27 +132,15 @@ module _ (d : Device) (e : ℕ) where
 
   -- the test of an entry from 3 on says what holds of it
   module _ (low : 3 ≤ e) (h : later_holds (pack_blocks d) (end_of (entry_at d (e - 1))) (entry_at d e) ≡ true) where
-    begun : first_of (entry_at d e) ≡ end_of (entry_at d (e - 1))
-    begun = grind (arith, nat_tests)
-
-    ends : is_blocks_left (entry_at d e) ≡ true → end_of (entry_at d e) ≡ pack_blocks d
-    ends t = grind (arith, nat_tests)
-
-    etx : is_blocks_left (entry_at d e) ≡ false → has_etx (name_of (entry_at d e)) ≡ true
-    etx t = grind (arith, nat_tests)
-
-    alive : is_blocks_left (entry_at d e) ≡ false → is_deleted (entry_at d e) ≡ false → live_holds (entry_at d e) ≡ true
-    alive t live = grind (arith, nat_tests)
-
     later-is : Holds d e
     later-is = record {
       volume = λ q. absurd (omega arith);
       boot = λ q. absurd (omega arith);
       directory = λ q. absurd (omega arith);
-      begins = λ _. begun;
-      ends = λ _ t. ends t;
-      named = λ _ t. etx-found (name_of (entry_at d e)) (etx t);
-      live = λ _ t live. live-follows (entry_at d e) (alive t live);
+      begins = λ _. grind (arith, nat_tests);
+      ends = λ _ t. grind (arith, nat_tests);
+      named = λ _ t. etx-found (name_of (entry_at d e)) (grind (arith, nat_tests));
+      live = λ _ t live. live-follows (entry_at d e) (grind (arith, nat_tests));
     }
 
   is-file : (k : Holds d e) → 3 ≤ e → is_blocks_left (entry_at d e) ≡ false → file_holds (entry_at d e) ≡ true
