@@ -131,17 +131,16 @@ module _ (d : Device) (e : ℕ) where
   at-later q = grind (arith, nat_tests)
 
   -- the test of an entry from 3 on says what holds of it
-  module _ (low : 3 ≤ e) (h : later_holds (pack_blocks d) (end_of (entry_at d (e - 1))) (entry_at d e) ≡ true) where
-    later-is : Holds d e
-    later-is = record {
-      volume = λ q. absurd (omega arith);
-      boot = λ q. absurd (omega arith);
-      directory = λ q. absurd (omega arith);
-      begins = λ _. grind (arith, nat_tests);
-      ends = λ _ t. grind (arith, nat_tests);
-      named = λ _ t. etx-found (name_of (entry_at d e)) (grind (arith, nat_tests));
-      live = λ _ t live. live-follows (entry_at d e) (grind (arith, nat_tests));
-    }
+  later-is : 3 ≤ e → later_holds (pack_blocks d) (end_of (entry_at d (e - 1))) (entry_at d e) ≡ true → Holds d e
+  later-is low h = record {
+    volume = λ q. absurd (omega arith);
+    boot = λ q. absurd (omega arith);
+    directory = λ q. absurd (omega arith);
+    begins = λ _. grind (arith, nat_tests);
+    ends = λ _ t. grind (arith, nat_tests);
+    named = λ _ t. etx-found (name_of (entry_at d e)) (grind (arith, nat_tests));
+    live = λ _ t live. live-follows (entry_at d e) (grind (arith, nat_tests));
+  }
 
   is-file : (k : Holds d e) → 3 ≤ e → is_blocks_left (entry_at d e) ≡ false → file_holds (entry_at d e) ≡ true
   is-file k low t =
