@@ -6,8 +6,10 @@ use Rattle.runs.proofs.running.run.Given as goal
 
 -- what is left to call gives what the whole gives, and there is room for its replies
 abbrev pub invariant-loop-request : goal.invariant-loop-request
-invariant-loop-request g l =
-    (goal.iterator-loop-request g).can_next l.request-iterator × (goal.iterator-loop-request g).is_finite l.request-iterator
-    × Sofar l.initial.unit.state (g.D.BlockDevice.meaning l.initial.unit.device) (map meant (into_iter_items l.initial.request-iterator))
-    (map meant (into_iter_items l.request-iterator)) (map told (vec_items l.replies)) l.unit.state (g.D.BlockDevice.meaning l.unit.device)
-    × (vec_len l.replies + into_iter_len l.request-iterator ≤ vec_capacity l.replies)
+invariant-loop-request g l = record {
+  going : (goal.iterator-loop-request g).can_next l.request-iterator;
+  ends : (goal.iterator-loop-request g).is_finite l.request-iterator;
+  sofar : Sofar l.initial.unit.state (g.D.BlockDevice.meaning l.initial.unit.device) (map meant (into_iter_items l.initial.request-iterator))
+      (map meant (into_iter_items l.request-iterator)) (map told (vec_items l.replies)) l.unit.state (g.D.BlockDevice.meaning l.unit.device);
+  room : vec_len l.replies + into_iter_len l.request-iterator ≤ vec_capacity l.replies
+}
