@@ -1,6 +1,9 @@
 -- A call that changes nothing, made by its value. Assumes nothing.
-use Rattle.std.proofs.Common.{◌≡◌, ℕ, false, List, sym, ◌∙◌, subst}
+use Rattle.std.proofs.Common.{◌≡◌, ℕ, false, List, length, Vec, vec_items, Result, sym, ap, ◌∙◌, subst}
 use Rattle.std.proofs.lemmas.Bool.{true≢false}
+use Rattle.std.proofs.lemmas.List.{with_items_is}
+use Rattle.std.specs.Vec.{with_items}
+use Rattle.refusal.specs.declared.Refusal.{Refusal}
 use Rattle.blocks.specs.Devices.{Device}
 use Rattle.model.specs.Models.{model_of}
 use Rattle.model.specs.Represents.{Turns}
@@ -8,15 +11,20 @@ use Rattle.model.specs.Requests.{Reply, Request, find, show}
 use Rattle.model.specs.Runs.{device_after, opens}
 use Rattle.model.specs.declared.state.NameKind.{NameKind}
 use Rattle.model.specs.declared.state.State.{State}
+use Rattle.requests.specs.Values.{meant}
+use Rattle.requests.specs.declared.values.Request.{Request as Call}
+use Rattle.unit.specs.Calls.{number}
 use Rattle.runs.specs.Performed.{Performed}
 
-pub served : (st : State) (d : Device) (asked request : Request) (told reply : Reply) → asked ≡ request → told ≡ reply → opens request ≡ false → d ≡ device_after (model_of st d) d request
-    → Turns st d asked reply st d → Performed st d request told st d
-served st d asked request told reply is same closed kept turn = record {
-  turn = subst (λ r. Turns st d request r st d) (sym same) (subst (λ q. Turns st d q reply st d) is turn);
-  decided = λ h. absurd (true≢false (sym h ∙ closed));
-  device = kept;
-}
+pub served : {Z : Type 0} (st : State) (d : Device) {call given : Call} {reply : Reply} {asked : Request} (answer : Result ℕ Refusal) (buffer : Vec ℕ Z) (bytes : List ℕ)
+    → call ≡ given → asked ≡ meant given → opens (meant given) ≡ false → d ≡ device_after (model_of st d) d (meant given)
+    → length bytes ≡ length (vec_items buffer) → reply ≡ number answer (vec_items (with_items buffer bytes)) → Turns st d asked (number answer bytes) st d → Performed st d (meant call) reply st d
+served st d {given = given} {reply = reply} {asked = asked} answer buffer bytes is same closed kept long made turn =
+    subst (λ q. Performed st d (meant q) reply st d) (sym is) (record {
+      turn = subst (λ r. Turns st d (meant given) r st d) (sym (made ∙ ap (number answer) (with_items_is buffer bytes (long ∙ sym buffer.ok.0)))) (subst (λ q. Turns st d q (number answer bytes) st d) same turn);
+      decided = λ h. absurd (true≢false (sym h ∙ closed));
+      device = kept;
+    })
 
 -- the same arguments make the same call
 pub asked-find : (kind : NameKind) {w w' : ℕ} {n n' b b' : List ℕ} → w ≡ w' → n ≡ n' → b ≡ b' → find w kind n b ≡ find w' kind n' b'

@@ -11,5 +11,5 @@ invariant-loop-request g l = record {
   ends : (goal.iterator-loop-request g).is_finite l.request-iterator;
   sofar : Sofar l.initial.unit.state (g.D.BlockDevice.meaning l.initial.unit.device) (map meant (into_iter_items l.initial.request-iterator))
       (map meant (into_iter_items l.request-iterator)) (map told (vec_items l.replies)) l.unit.state (g.D.BlockDevice.meaning l.unit.device);
-  room : vec_len l.replies + into_iter_len l.request-iterator ≤ vec_capacity l.replies
+  room : vec_len l.replies + into_iter_len l.request-iterator ≤ vec_capacity l.replies;
 }
