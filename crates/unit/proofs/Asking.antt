@@ -1,7 +1,9 @@
 -- Find and show answer as the model's steps do. Assumes nothing.
-use Rattle.std.proofs.Common.{◌≡◌, ℕ, ◌+◌, ◌-◌, ◌<◌, ◌≤◌, Bool, true, false, cond, ◌&&◌, eqb, ltb, leb, ◌⊎◌, List, ◌++◌, length, drop, is_some, Some, None, Ok, Err, Option, Result, sym, refl, ap, ◌∙◌, subst, inl, inr, arith}
-use Rattle.std.proofs.lemmas.Bool.{and_cases, and_parts, le-leb, leb-false, leb-true, lt-leb, ltb-false, ltb-true, ne_eqb}
+use Rattle.std.proofs.Common.{◌≡◌, ℕ, ◌+◌, ◌-◌, ◌<◌, ◌≤◌, Bool, true, false, cond, ◌&&◌, eqb, ltb, leb, ◌⊎◌, List, ◌++◌, length, drop, take, is_some, Some, None, Ok, Err, Option, Result, sym, refl, ap, ◌∙◌, subst, ap₂, inl, inr, arith}
+use Rattle.std.proofs.lemmas.Bool.{and_cases, and_parts, le-leb, leb-false, leb-true, lt-leb, ltb-false, ltb-true, ne_eqb, true≢false}
+use Rattle.std.proofs.lemmas.List.{take-append-drop}
 use Rattle.std.specs.Option.{ok_or, option_or}
+use Rattle.std.specs.Result.{IsErrAnd}
 use Rattle.refusal.specs.declared.Refusal.{Refusal}
 use Rattle.refusal.specs.declared.Refusal.TheVariants.{BadName, NoPack, NoSuchFile, OutOfRange}
 use Rattle.blocks.specs.Devices.{Device, block_at, size_of}
@@ -12,7 +14,7 @@ use Rattle.directory.specs.declared.judgement.Pack.{Pack}
 use Rattle.directory.specs.declared.lookups.Found.{Found}
 use Rattle.model.specs.Models.{Model, files_from, model_of, pack_found, pack_on}
 use Rattle.model.specs.Represents.{Turn, Turns}
-use Rattle.model.specs.Requests.{Reply, find, show}
+use Rattle.model.specs.Requests.{Reply, Request, find, show}
 use Rattle.model.specs.Steps.{buffer_stage, files_of, find_step, first_file, fits_name, is_name, name_stage, pack_stage, show_step, shown_step, unless, work_stage}
 use Rattle.model.specs.declared.state.NameKind.{NameKind}
 use Rattle.model.specs.declared.state.State.{State}
@@ -20,6 +22,7 @@ use Rattle.model.proofs.Laying.{laid_on}
 use Rattle.model.proofs.Stages.{full}
 use Rattle.model.proofs.Reading.{found-file, known, numbered-in, numbered-out, read_none}
 use Rattle.unit.specs.Calls.{after, file_found, file_shown, named, number, numbered, pack_asked, read_as, some_file, with_pack}
+use Rattle.unit.proofs.Exits.{met}
 
 -- the reply to a call about a file
 abbrev pub shown_reply : Result Found Refusal → List ℕ → Reply
@@ -119,7 +122,7 @@ module _ (st : State) (d : Device) (consistent : (pack : Pack) → st.pack ≡ S
     show-keeps = kept (model_of st d) buffer own _
 
 module _ (st : State) (d : Device) (wide : (b : ℕ) → b < size_of d → length (block_at d b) ≡ 1024) (work : ℕ) (buffer : List ℕ) (reply : Reply) where
-  pub find-turn : (kind : NameKind) (name : List ℕ) → reply ≡ shown_reply (file_found st d work kind name buffer) buffer → Turns st d (find work kind name buffer) reply st d
+  find-turn : (kind : NameKind) (name : List ℕ) → reply ≡ shown_reply (file_found st d work kind name buffer) buffer → Turns st d (find work kind name buffer) reply st d
   find-turn kind name is m rep = subst (λ m. Turn m (find work kind name buffer) d reply st d) (sym rep.model) (record {
     replied = is ∙ find-reply st d rep.judged work buffer kind name;
     represents = record { model = find-keeps st d rep.judged work buffer kind name; judged = rep.judged };
@@ -127,7 +130,7 @@ module _ (st : State) (d : Device) (wide : (b : ℕ) → b < size_of d → lengt
     bytes = λ _. laid_on d wide (find_step (model_of st d) work kind name buffer).model (ap (λ (m : Model). m.pack) (find-keeps st d rep.judged work buffer kind name));
   })
 
-  pub show-turn : (entry : ℕ) → reply ≡ shown_reply (file_shown st d work entry buffer) buffer → Turns st d (show work entry buffer) reply st d
+  show-turn : (entry : ℕ) → reply ≡ shown_reply (file_shown st d work entry buffer) buffer → Turns st d (show work entry buffer) reply st d
   show-turn entry is m rep = subst (λ m. Turn m (show work entry buffer) d reply st d) (sym rep.model) (record {
     replied = is ∙ show-reply st d rep.judged work buffer entry;
     represents = record { model = show-keeps st d rep.judged work buffer entry; judged = rep.judged };
@@ -135,21 +138,61 @@ module _ (st : State) (d : Device) (wide : (b : ℕ) → b < size_of d → lengt
     bytes = λ _. laid_on d wide (show_step (model_of st d) work entry buffer).model (ap (λ (m : Model). m.pack) (show-keeps st d rep.judged work buffer entry));
   })
 
--- find and show, by how they are left
+-- a request that shows a file, and how the file is asked of the pack
+pub record Asks (st : State) (d : Device) (work : ℕ) (buffer : List ℕ) (request : Request) (next : ℕ → Pack → Result Found Refusal) : Type 0 where
+  pub turn : (reply : Reply) → reply ≡ shown_reply (with_pack (pack_asked st work buffer) (next work)) buffer → Turns st d request reply st d
+
+module _ (st : State) (d : Device) (wide : (b : ℕ) → b < size_of d → length (block_at d b) ≡ 1024) (work : ℕ) (buffer : List ℕ) where
+  pub find-asks : (kind : NameKind) (name : List ℕ) → Asks st d work buffer (find work kind name buffer) (λ n pack. some_file (named d kind name n pack))
+  find-asks kind name = record { turn = λ reply is. find-turn st d wide work buffer reply kind name is }
+
+  pub show-asks : (entry : ℕ) → Asks st d work buffer (show work entry buffer) (numbered d entry)
+  show-asks entry = record { turn = λ reply is. show-turn st d wide work buffer reply entry is }
+
+-- what find and show reply, by how they are left
 module _ (st : State) (work : ℕ) (buffer : List ℕ) (next : ℕ → Pack → Result Found Refusal) where
-  pub no-work : (work ≡ 1024 → ⊥) → (r : Result ℕ Refusal) → r ≡ Err OutOfRange → number r buffer ≡ shown_reply (with_pack (pack_asked st work buffer) (next work)) buffer
+  no-work : (work ≡ 1024 → ⊥) → (r : Result ℕ Refusal) → r ≡ Err OutOfRange → number r buffer ≡ shown_reply (with_pack (pack_asked st work buffer) (next work)) buffer
   no-work other r is =
       ap (λ r. number r buffer) is
       ∙ ap (λ t. shown_reply (with_pack (after (cond t None (Some OutOfRange)) (after (buffer_stage buffer) (ok_or st.pack NoPack))) (next work)) buffer) (sym (ne_eqb work 1024 other))
 
-  pub no-room : work ≡ 1024 → (26 ≤ length buffer → ⊥) → (r : Result ℕ Refusal) → r ≡ Err OutOfRange → number r buffer ≡ shown_reply (with_pack (pack_asked st work buffer) (next work)) buffer
+  no-room : work ≡ 1024 → (26 ≤ length buffer → ⊥) → (r : Result ℕ Refusal) → r ≡ Err OutOfRange → number r buffer ≡ shown_reply (with_pack (pack_asked st work buffer) (next work)) buffer
   no-room full short r is =
       ap (λ r. number r buffer) is
       ∙ ap (λ t. shown_reply (with_pack (after (work_stage 1024) (after (cond t None (Some OutOfRange)) (ok_or st.pack NoPack))) (next work)) buffer) (sym (lt-leb 26 (length buffer) (omega (arith, short))))
       ∙ ap (λ n. shown_reply (with_pack (pack_asked st n buffer) (next work)) buffer) (sym full)
 
-  pub about : work ≡ 1024 → 26 ≤ length buffer → (r : Result Found Refusal) → r ≡ with_pack (ok_or st.pack NoPack) (next 1024) → r ≡ with_pack (pack_asked st work buffer) (next work)
+  about : work ≡ 1024 → 26 ≤ length buffer → (r : Result Found Refusal) → r ≡ with_pack (ok_or st.pack NoPack) (next 1024) → r ≡ with_pack (pack_asked st work buffer) (next work)
   about full room r is =
       is
       ∙ ap (λ t. with_pack (after (work_stage 1024) (after (cond t None (Some OutOfRange)) (ok_or st.pack NoPack))) (next 1024)) (sym (le-leb 26 (length buffer) room))
       ∙ ap (λ n. with_pack (pack_asked st n buffer) (next n)) (sym full)
+
+-- an option that is none is not some, and `?` leaves with what stands for it
+not-some : {X : Type 0} (o : Option X) → o ≡ None → is_some o ≡ true → ⊥
+not-some o none some = true≢false (sym some ∙ ap is_some none)
+
+left-by : {X : Type 0} (o : Option X) (x : Refusal) (r : Result ℕ Refusal) → o ≡ None → ◌≡◌ {A = Result X Refusal} (Err x) (ok_or o OutOfRange) → IsErrAnd r (λ y. y ≡ x) → r ≡ Err OutOfRange
+left-by o x r none told left = met r x left ∙ ap Err (let h = told ∙ ap (λ o. ok_or o OutOfRange) none in cc)
+
+-- find and show take their turn, by how they are left
+module _ {st : State} {d : Device} {work : ℕ} {buffer : List ℕ} {request : Request} {next : ℕ → Pack → Result Found Refusal} (asks : Asks st d work buffer request next) where
+  pub left-work : {X : Type 0} {o : Option X} {x : Refusal} (r : Result ℕ Refusal) → (work ≡ 1024 → is_some o ≡ true) → o ≡ None → ◌≡◌ {A = Result X Refusal} (Err x) (ok_or o OutOfRange)
+      → IsErrAnd r (λ y. y ≡ x) → Turns st d request (number r buffer) st d
+  left-work {o = o} {x = x} r fits none told left = asks.turn (number r buffer) (no-work st work buffer next (λ q. not-some o none (fits q)) r (left-by o x r none told left))
+
+  pub left-front : {X : Type 0} {o : Option X} {x : Refusal} (r : Result ℕ Refusal) → work ≡ 1024 → (26 ≤ length buffer → is_some o ≡ true) → o ≡ None → ◌≡◌ {A = Result X Refusal} (Err x) (ok_or o OutOfRange)
+      → IsErrAnd r (λ y. y ≡ x) → Turns st d request (number r buffer) st d
+  left-front {o = o} {x = x} r full fits none told left = asks.turn (number r buffer) (no-room st work buffer next full (λ q. not-some o none (fits q)) r (left-by o x r none told left))
+
+  pub left-file : {x : Refusal} (r : Result ℕ Refusal) (front : List ℕ) → work ≡ 1024 → 26 ≤ length buffer → front ≡ take 26 buffer → Err x ≡ with_pack (ok_or st.pack NoPack) (next 1024)
+      → IsErrAnd r (λ y. y ≡ x) → Turns st d request (number r (front ++ drop 26 buffer)) st d
+  left-file {x = x} r front full room same told left =
+      asks.turn (number r (front ++ drop 26 buffer))
+      (ap₂ number (met r x left) (ap (λ front. front ++ drop 26 buffer) same ∙ take-append-drop 26 buffer) ∙ ap (λ r. shown_reply r buffer) (about st work buffer next full room (Err x) told))
+
+  pub shown : (file : Found) (front : List ℕ) → work ≡ 1024 → 26 ≤ length buffer → front ≡ file.entry.bytes → Ok file ≡ with_pack (ok_or st.pack NoPack) (next 1024)
+      → Turns st d request (number (Ok file.number) (front ++ drop 26 buffer)) st d
+  shown file front full room same told =
+      asks.turn (number (Ok file.number) (front ++ drop 26 buffer))
+      (ap (λ front. record { answer = Ok (Some file.number); buffer = front ++ drop 26 buffer }) same ∙ ap (λ r. shown_reply r buffer) (about st work buffer next full room (Ok file) told))
