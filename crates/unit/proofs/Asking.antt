@@ -15,7 +15,7 @@ use Rattle.directory.specs.declared.lookups.Found.{Found}
 use Rattle.model.specs.Models.{Model, files_from, model_of, pack_found, pack_on}
 use Rattle.model.specs.Represents.{Turn, Turns}
 use Rattle.model.specs.Requests.{Reply, Request, find, show}
-use Rattle.model.specs.Steps.{buffer_stage, files_of, find_step, first_file, fits_name, is_name, name_stage, pack_stage, show_step, shown_step, unless, work_stage}
+use Rattle.model.specs.Steps.{buffer_stage, files_of, find_step, first_file, fits_name, is_name, name_stage, pack_stage, show_step, shown_step, step, unless, work_stage}
 use Rattle.model.specs.declared.state.NameKind.{NameKind}
 use Rattle.model.specs.declared.state.State.{State}
 use Rattle.model.proofs.Laying.{laid_on}
@@ -121,33 +121,30 @@ module _ (st : State) (d : Device) (consistent : (pack : Pack) → st.pack ≡ S
     show-keeps : (show_step (model_of st d) work entry buffer).model ≡ model_of st d
     show-keeps = kept (model_of st d) buffer own _
 
-module _ (st : State) (d : Device) (wide : (b : ℕ) → b < size_of d → length (block_at d b) ≡ 1024) (work : ℕ) (buffer : List ℕ) (reply : Reply) where
-  find-turn : (kind : NameKind) (name : List ℕ) → reply ≡ shown_reply (file_found st d work kind name buffer) buffer → Turns st d (find work kind name buffer) reply st d
-  find-turn kind name is m rep = subst (λ m. Turn m (find work kind name buffer) d reply st d) (sym rep.model) (record {
-    replied = is ∙ find-reply st d rep.judged work buffer kind name;
-    represents = record { model = find-keeps st d rep.judged work buffer kind name; judged = rep.judged };
-    refused = λ _. refl;
-    bytes = λ _. laid_on d wide (find_step (model_of st d) work kind name buffer).model (ap (λ (m : Model). m.pack) (find-keeps st d rep.judged work buffer kind name));
-  })
-
-  show-turn : (entry : ℕ) → reply ≡ shown_reply (file_shown st d work entry buffer) buffer → Turns st d (show work entry buffer) reply st d
-  show-turn entry is m rep = subst (λ m. Turn m (show work entry buffer) d reply st d) (sym rep.model) (record {
-    replied = is ∙ show-reply st d rep.judged work buffer entry;
-    represents = record { model = show-keeps st d rep.judged work buffer entry; judged = rep.judged };
-    refused = λ _. refl;
-    bytes = λ _. laid_on d wide (show_step (model_of st d) work entry buffer).model (ap (λ (m : Model). m.pack) (show-keeps st d rep.judged work buffer entry));
-  })
-
 -- a request that shows a file, and how the file is asked of the pack
 pub record Asks (st : State) (d : Device) (work : ℕ) (buffer : List ℕ) (request : Request) (next : ℕ → Pack → Result Found Refusal) : Type 0 where
   pub turn : (reply : Reply) → reply ≡ shown_reply (with_pack (pack_asked st work buffer) (next work)) buffer → Turns st d request reply st d
 
 module _ (st : State) (d : Device) (wide : (b : ℕ) → b < size_of d → length (block_at d b) ≡ 1024) (work : ℕ) (buffer : List ℕ) where
+  -- its step replies the file, and leaves the model
+  asks-by : (request : Request) (next : ℕ → Pack → Result Found Refusal)
+      → (((pack : Pack) → st.pack ≡ Some pack → judged d 1024 ≡ Ok pack)
+      → (shown_reply (with_pack (pack_asked st work buffer) (next work)) buffer ≡ (step (model_of st d) request).reply) × ((step (model_of st d) request).model ≡ model_of st d))
+      → Asks st d work buffer request next
+  asks-by request next steps = record {
+    turn = λ reply is m rep. let s = steps rep.judged in subst (λ m. Turn m request d reply st d) (sym rep.model) (record {
+      replied = is ∙ s.0;
+      represents = record { model = s.1; judged = rep.judged };
+      refused = λ _. refl;
+      bytes = λ _. laid_on d wide (step (model_of st d) request).model (ap (λ (m : Model). m.pack) s.1);
+    });
+  }
+
   pub find-asks : (kind : NameKind) (name : List ℕ) → Asks st d work buffer (find work kind name buffer) (λ n pack. some_file (named d kind name n pack))
-  find-asks kind name = record { turn = λ reply is. find-turn st d wide work buffer reply kind name is }
+  find-asks kind name = asks-by _ _ (λ judged. (find-reply st d judged work buffer kind name, find-keeps st d judged work buffer kind name))
 
   pub show-asks : (entry : ℕ) → Asks st d work buffer (show work entry buffer) (numbered d entry)
-  show-asks entry = record { turn = λ reply is. show-turn st d wide work buffer reply entry is }
+  show-asks entry = asks-by _ _ (λ judged. (show-reply st d judged work buffer entry, show-keeps st d judged work buffer entry))
 
 -- what find and show reply, by how they are left
 module _ (st : State) (work : ℕ) (buffer : List ℕ) (next : ℕ → Pack → Result Found Refusal) where
