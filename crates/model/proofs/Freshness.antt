@@ -1,11 +1,10 @@
 -- A device after a granted initialise: it follows the layout, and the pack on it is the fresh one. Assumes nothing.
-use Rattle.std.proofs.Common.{◌≡◌, ℕ, zero, suc, ◌+◌, ◌-◌, ◌<◌, ◌≤◌, true, cond, eqb, ltb, ◌⊎◌, List, [], length, get_or, take, set, replicate, Some, None, Ok, Option, Result, sym, refl, ap, ◌∙◌, subst, inl, inr, arith}
+use Rattle.std.proofs.Common.{◌≡◌, ℕ, zero, suc, ◌+◌, ◌-◌, ◌<◌, ◌≤◌, cond, eqb, ltb, ◌⊎◌, List, [], length, get_or, take, set, replicate, Some, None, Ok, Option, Result, sym, refl, ap, ◌∙◌, subst, inl, inr, arith}
 use Rattle.std.proofs.lemmas.List.{get_or-set_other, get_or-set_same, length-set, take_at}
 use Rattle.std.proofs.lemmas.Bool.{and_from, cases_eq, cases_lt, lt-ltb}
 use Rattle.refusal.specs.declared.Refusal.{Refusal}
 use Rattle.blocks.specs.Devices.{Device, block_at, mark_at, mark_fault, read_fault, size_of}
 use Rattle.blocks.specs.declared.faults.Fault.TheVariants.{OutOfRange}
-use Rattle.names.specs.Names.{is_volume}
 use Rattle.entry.specs.Fields.{check_of, directory_of, entry_in, first_of, room_of, size_of as volume_size}
 use Rattle.entry.specs.declared.stamp.Stamp.{Stamp}
 use Rattle.directory.specs.Entries.{entry_at}
@@ -19,7 +18,7 @@ use Rattle.model.specs.Models.{PackModel, pack_found, pack_on, pack_read}
 use Rattle.model.specs.Runs.{Accounts}
 use Rattle.model.specs.Steps.{first_bad}
 use Rattle.model.proofs.Accounting.{accounts}
-use Rattle.model.proofs.Stages.{neither}
+use Rattle.model.proofs.Stages.{Facts, neither}
 use Rattle.model.proofs.Fields.{boot-first, boot-long, boot-room, directory-first, directory-long, directory-room, left-first, left-long, left-marked, left-room, past, volume-check, volume-directory, volume-long, volume-size}
 
 pub zeroed-long : (n : ℕ) (blocks : List (List ℕ)) (b : ℕ) → length (zeroed blocks b n) ≡ length blocks
@@ -39,8 +38,7 @@ sound-read d (suc n) b h fits k low high =
         ∙ ap (λ t. cond t (mark_fault (mark_at d b)) (Some (OutOfRange b))) (and_from (ltb b (size_of d)) (eqb 1024 1024) (lt-ltb b (size_of d) (omega arith)) refl) ∙ here
     by (inr q) here later = later (omega arith)
 
-module _ (d : Device) (name : List ℕ) (directory blocks : ℕ) (date : Option Stamp) (keeps : is_volume name ≡ true) (some : 1 ≤ directory) (few : directory ≤ 127)
-    (least : directory + 1 ≤ blocks) (most : blocks ≤ size_of d) (small : size_of d ≤ 65535) (sound : first_bad d.marks 1 directory ≡ None) where
+module _ (d : Device) (name : List ℕ) (directory blocks : ℕ) (date : Option Stamp) {work : ℕ} (f : Facts d work name directory blocks) (small : size_of d ≤ 65535) where
   abbrev d' : Device
   d' = initialised d name directory blocks date
 
@@ -65,58 +63,58 @@ module _ (d : Device) (name : List ℕ) (directory blocks : ℕ) (date : Option 
       (omega (arith, zeroed-long (directory - 1) d.blocks 2))
 
   at-volume : entry_at d' 0 ≡ volume
-  at-volume = ap (λ b. entry_in b 0) first-is ∙ take_at volume _ 26 (volume-long name directory blocks date keeps)
+  at-volume = ap (λ b. entry_in b 0) first-is ∙ take_at volume _ 26 (volume-long name directory blocks date f.keeps)
 
   at-boot : entry_at d' 1 ≡ boot
   at-boot =
-      ap (λ b. entry_in b 1) first-is ∙ ap (take 26) (past volume _ 26 26 0 (volume-long name directory blocks date keeps) refl)
+      ap (λ b. entry_in b 1) first-is ∙ ap (take 26) (past volume _ 26 26 0 (volume-long name directory blocks date f.keeps) refl)
       ∙ take_at boot _ 26 (boot-long date)
 
   at_table : entry_at d' 2 ≡ table
   at_table =
       ap (λ b. entry_in b 2) first-is
-      ∙ ap (take 26) (past volume _ 26 52 26 (volume-long name directory blocks date keeps) refl ∙ past boot _ 26 26 0 (boot-long date) refl)
+      ∙ ap (take 26) (past volume _ 26 52 26 (volume-long name directory blocks date f.keeps) refl ∙ past boot _ 26 26 0 (boot-long date) refl)
       ∙ take_at table _ 26 (directory-long directory date)
 
   at_left : entry_at d' 3 ≡ left
   at_left =
       ap (λ b. entry_in b 3) first-is
-      ∙ ap (take 26) (past volume _ 26 78 52 (volume-long name directory blocks date keeps) refl ∙ past boot _ 26 52 26 (boot-long date) refl
+      ∙ ap (take 26) (past volume _ 26 78 52 (volume-long name directory blocks date f.keeps) refl ∙ past boot _ 26 52 26 (boot-long date) refl
       ∙ past table _ 26 26 0 (directory-long directory date) refl)
       ∙ take_at left _ 26 (left-long directory blocks date)
 
   pub directory-is : directory_blocks d' ≡ directory
-  directory-is = ap directory_of at-volume ∙ volume-directory name directory blocks date keeps few (omega arith)
+  directory-is = ap directory_of at-volume ∙ volume-directory name directory blocks date f.keeps f.few (omega arith)
 
   blocks_is : pack_blocks d' ≡ blocks
-  blocks_is = ap volume_size at-volume ∙ volume-size name directory blocks date keeps few (omega arith)
+  blocks_is = ap volume_size at-volume ∙ volume-size name directory blocks date f.keeps f.few (omega arith)
 
   left-begins : first_of (entry_at d' 3) ≡ 1 + directory
-  left-begins = ap first_of at_left ∙ left-first directory blocks date few
+  left-begins = ap first_of at_left ∙ left-first directory blocks date f.few
 
   left-has : room_of (entry_at d' 3) ≡ blocks - (1 + directory)
   left-has = ap room_of at_left ∙ left-room directory blocks date (omega arith)
 
   table-ends : end_of (entry_at d' 2) ≡ 1 + directory
-  table-ends = ap end_of at_table ∙ ap (λ r. 1 + r) (directory-room directory date few)
+  table-ends = ap end_of at_table ∙ ap (λ r. 1 + r) (directory-room directory date f.few)
 
   pub follows : Follows d'
   follows = record {
     volume = record {
       blocks = omega (arith, size_same);
-      check = ap check_of at-volume ∙ volume-check name directory blocks date keeps few (omega arith);
+      check = ap check_of at-volume ∙ volume-check name directory blocks date f.keeps f.few (omega arith);
       some = omega (arith, directory-is);
       least = omega (arith, directory-is, blocks_is);
       most = omega (arith, blocks_is, size_same);
     };
     boot = record { begins = ap first_of at-boot ∙ boot-first date; has = ap room_of at-boot ∙ boot-room date };
-    directory = record { begins = ap first_of at_table ∙ directory-first directory date; has = ap room_of at_table ∙ directory-room directory date few ∙ sym directory-is };
+    directory = record { begins = ap first_of at_table ∙ directory-first directory date; has = ap room_of at_table ∙ directory-room directory date f.few ∙ sym directory-is };
     left = 3;
     is_left = record {
       from = omega arith;
       within = omega (arith, directory-is);
       marked = ap is_blocks_left at_left ∙ left-marked directory blocks date;
-      first = λ f low high. absurd (omega arith);
+      first = λ place low high. absurd (omega arith);
     };
     ends = omega (arith, left-begins, left-has, blocks_is);
     chain = λ e low high. chained e low high;
@@ -128,7 +126,7 @@ module _ (d : Device) (name : List ℕ) (directory blocks : ℕ) (date : Option 
       chained e low high = subst (λ k. first_of (entry_at d' k) ≡ end_of (entry_at d' (k - 1))) (let z : 3 ≡ e = omega arith in z) (left-begins ∙ sym table-ends)
 
   readable : Readable d' (directory_blocks d') 1024
-  readable b low high = sound-read d' directory 1 sound (omega (arith, size_same)) b low (omega (arith, directory-is))
+  readable b low high = sound-read d' directory 1 f.sound (omega (arith, size_same)) b low (omega (arith, directory-is))
 
   pub fresh-judged : judged d' 1024 ≡ Ok (record { blocks = blocks; directory = directory; left = 3; free = blocks - (1 + directory) })
   unfolding follows

@@ -71,7 +71,7 @@ module _ (st : State) (d : Device) (small : size_of d ≤ 65535) (work : ℕ) (n
         p = fresh_pack name directory blocks (model_of st d).date;
         up = refl;
         pack = refl;
-        accounts = fresh-accounts d name directory blocks (model_of st d).date f.keeps f.some f.few f.least f.most small f.sound;
+        accounts = fresh-accounts d name directory blocks (model_of st d).date f small;
       }
 
   fresh-stands : is_refused (model_of st d) (initialise work name directory blocks) ≡ false

@@ -41,8 +41,8 @@ module _ (st : State) (d : Device) (work : ℕ) (name : List ℕ) (directory blo
   made = ap (λ o. unless o (model_of st d) [] (done_step (up_model (model_of st d) (fresh_pack name directory blocks date)))) none
 
   stands : up_model (model_of st d) (fresh_pack name directory blocks date) ≡ model_of (fresh_state st directory blocks) d'
-  stands = sym (go (size_same d name directory blocks date f.keeps f.some f.few f.least f.most small f.sound)
-      (fresh-pack d name directory blocks date f.keeps f.some f.few f.least f.most small f.sound))
+  stands = sym (go (size_same d name directory blocks date f small)
+      (fresh-pack d name directory blocks date f small))
     where
       go : {s s' : ℕ} {p p' : Result PackModel Refusal} → s ≡ s' → p ≡ p'
           → ◌≡◌ {A = Model} (record { date = date; size = s; marks = d.marks; tab = d.tab; up = true; pack = p; opened = free_table }) (record { date = date; size = s'; marks = d.marks; tab = d.tab; up = true; pack = p'; opened = free_table })
@@ -51,7 +51,7 @@ module _ (st : State) (d : Device) (work : ℕ) (name : List ℕ) (directory blo
   represented : Represents (initialise_step (model_of st d) work name directory blocks).model (fresh_state st directory blocks) d'
   represented = record {
     model = ap (λ s. s.model) made ∙ stands;
-    judged = λ pack up. fresh-judged d name directory blocks date f.keeps f.some f.few f.least f.most small f.sound ∙ ap Ok (let same : _ ≡ pack = some_is up in same);
+    judged = λ pack up. fresh-judged d name directory blocks date f small ∙ ap Ok (let same : _ ≡ pack = some_is up in same);
   }
     where
       some_is : {x y : Pack} → Some x ≡ Some y → x ≡ y
