@@ -16,8 +16,8 @@ pub enum Mark {
     Bad { depth: u8, place: u16 },
 }
 
-// The write-protect tab: off, or on at a depth. An enum of its own and not an `Option<u8>`: it is a word of what a device
-// means, over which every theorem of devices, and of all that is built on them, stands.
+// The write-protect tab: off, or on at a depth. An enum of its own and not an `Option<u8>`, which would not say
+// that the tab is on, and would be no plainer with the methods below.
 #[derive(Clone, Copy, PartialEq, Eq, Debug)]
 pub enum Tab {
     Off,

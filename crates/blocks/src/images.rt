@@ -6,10 +6,12 @@ ghost use Rattle.blocks.specs.Imaging.{image-sized, image-wide, image-small, ima
 
 use crate::device::BlockDevice;
 use crate::faults::{Fault, Tab};
-use crate::ranges::{BLOCK, check_range};
+use crate::ranges::check_range;
 use crate::rejected::Rejected;
+use parts::BLOCK;
 
-// `protected` is a flag and not a `Tab`: an image's own tab is never at a depth.
+// A type beside the sector disk, and not one device over two layouts: a trait for a layout, its marks and what a write
+// leaves would be as long as both. `protected` is a flag and not a `Tab`: an image's own tab is never at a depth.
 #[derive(Drop)]
 pub struct Image {
     bytes: Vec<u8>,
@@ -76,6 +78,7 @@ impl BlockDevice for Image {
     ghost shallow = { λ x. image-shallow x.bytes.items x.protected };
 
     fn size(&self) -> u32 {
+        // a cast and not `try_from`, which could not fail: an image has at most 65,535 blocks
         (self.bytes.len() / BLOCK) as u32
     }
 

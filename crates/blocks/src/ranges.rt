@@ -3,9 +3,7 @@ ghost use Rattle.std.specs.Prelude.{◌≡◌};
 ghost use Rattle.blocks.specs.Devices.{outcome, range_fault};
 
 use crate::faults::Fault;
-
-// The bytes of a block.
-pub const BLOCK: usize = 1024;
+use parts::BLOCK;
 
 // Refuses a block that is not below the size, and a buffer that is not a block long.
 pub fn check_range(block: u32, size: u32, len: usize) -> Result<(), Fault>

@@ -63,6 +63,7 @@ fn hex_value(digit: u8) -> u8
     ensures within { result ≤ 15 }
     ensures value { result ≡ hex_value digit }
 {
+    // a cast and not `try_from`, which could not fail: a digit is below 16
     char::from(digit).to_digit(16).unwrap_or(0) as u8
 }
 

@@ -51,6 +51,7 @@ fn judge_files<D: BlockDevice>(
         room: 0,
     };
     seen.see_block(block, 3..PER_BLOCK);
+    // a block that cannot be read ends the pass
     for place in 2..=u16::from(counts.directory) {
         device.read(u32::from(place), block)?;
         seen.see_block(block, PER_BLOCK * (place - 1)..PER_BLOCK * place);

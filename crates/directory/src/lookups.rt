@@ -7,7 +7,8 @@ use blocks::BlockDevice;
 use entry::{BLOCK, ENTRIES, Entry};
 use refusal::Refusal;
 
-// What a file can be looked for by: it says yes or no to an entry, of which it sees all 26 bytes.
+// What a file can be looked for by: it says yes or no to an entry, of which it sees all 26 bytes. A trait and not a
+// closure: its meaning is what the contracts of the lookup speak of.
 pub trait Key {
     ghost meaning: { Self → List ℕ → Bool };
 
@@ -41,7 +42,7 @@ pub fn lookup<D: BlockDevice, K: Key>(
     ensures work { WorkBlock work.old work.new }
 {
     // Nested loops: that no entry before this one ends the search is one fact for both, which a search of one block
-    // would state again of that block.
+    // would state again of that block. The work block is asked for where one is read: a directory of none needs none.
     for block in 1..=u32::from(directory) {
         let held = work.as_mut_array::<BLOCK>().ok_or(Refusal::OutOfRange)?;
         device.read(block, held)?;

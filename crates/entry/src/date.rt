@@ -70,6 +70,7 @@ impl Date {
     pub fn years_past_1900(&self) -> u8
         ensures { result ≡ self.now.year - 1900 }
     {
+        // a cast and not `try_from`, which could not fail: the last year is 2155
         (self.year - 1900) as u8
     }
 }

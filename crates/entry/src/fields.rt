@@ -7,10 +7,11 @@ ghost use Rattle.entry.specs.Stamps.{stamp_of};
 ghost use Rattle.std.specs.Str.{bytes_eq};
 
 use crate::attributes::{Attribute, Attributes};
-use crate::length::{BLOCK, length_of};
+use crate::length::length_of;
 use crate::numbers::array_at;
 use crate::stamp::{Stamp, read_stamp};
 use names::{FIELD, same_bytes};
+use parts::BLOCK;
 
 // The bytes of an entry.
 pub const ENTRY: usize = 26;

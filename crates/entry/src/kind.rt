@@ -6,8 +6,8 @@ ghost use Rattle.names.specs.Names.{characters as characters_of};
 ghost use Rattle.std.specs.Option.{option_map};
 
 use crate::fields::{Entry, place_of};
-use crate::length::BLOCK;
 use names::{FIELD, characters};
+use parts::BLOCK;
 
 // A kind of entry, with its name lent from the directory block that is being read.
 #[derive(Clone, Copy, PartialEq, Eq, Debug)]

@@ -2,9 +2,6 @@
 ghost use Rattle.std.specs.Prelude.{◌≡◌, ℕ, IfSome, if◌then◌else◌, Some, None, MatchOption, ◌≢◌, nat_le};
 ghost use Rattle.entry.specs.Lengths.{length_of, longest, split as split_of};
 
-// The bytes of a block.
-pub const BLOCK: usize = 1024;
-
 // The longest length that an entry can hold: 65,535 full blocks.
 pub const LONGEST: u32 = 67_107_840;
 
@@ -20,6 +17,7 @@ pub fn split(length: u32) -> Option<(u16, u16)>
     }
     let used = length.div_ceil(1024);
     let last = length - 1024 * used.saturating_sub(1);
+    // casts and not `try_from`, which could not fail
     Some((used as u16, last as u16))
 }
 

@@ -14,5 +14,6 @@ pub use attributes::{Attribute, Attributes};
 pub use date::Date;
 pub use fields::{CHECK_BYTES, ENTRIES, ENTRY, Entry};
 pub use kind::{Kind, kind_of};
-pub use length::{BLOCK, LONGEST, length_of, split};
+pub use length::{LONGEST, length_of, split};
+pub use parts::BLOCK;
 pub use stamp::{Stamp, date_bytes, read_stamp};

@@ -20,6 +20,7 @@ impl Directory {
     pub(crate) fn size(&self) -> u32
         ensures { result ≡ length self.now.blocks.items }
     {
+        // a cast and not `try_from`, which could not fail: there are at most 127
         self.blocks.len() as u32
     }
 

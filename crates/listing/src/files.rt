@@ -26,6 +26,7 @@ impl Files {
         let end = ENTRIES * directory.size();
         // Not `ok_or` and `?`, under which the answer where there is no such entry was left unproved.
         let Some(left) = directory.first(3, end, |entry| entry.is_blocks_left()) else {
+            // casts here and below, and not `try_from`, which could not fail: a directory has at most 4,953 entries
             return Err(Refusal::BrokenLayout { entry: end as u16 });
         };
         match directory.first(

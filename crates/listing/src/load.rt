@@ -44,6 +44,7 @@ fn load_more<D: BlockDevice>(
     ensures whole { OnOk result (All (λ block. length block ≡ 1024) blocks.new.items) }
     ensures count { OnOk result (length blocks.new.items ≡ length blocks.old.items + (count - 1)) }
 {
+    // Not `2..=count`, which a loop leaves by two ways: the count and the value were then left unproved.
     for block in 2..count + 1 {
         blocks.push(read_block(device, block)?)?;
     }

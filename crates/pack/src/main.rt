@@ -12,7 +12,7 @@ use std::process::ExitCode;
 use std::{env, fs};
 
 // What was made; or, where nothing was, the line that says why on standard error, and an error that ends the program
-// without success.
+// without success. A match and not `or_else`, whose closure would have to say again when `line` may be called.
 fn made<T, E: Drop, L: FnOnce(E) -> Result<String, AllocError>>(
     rt: &HostRuntime,
     tried: Result<T, E>,

@@ -82,7 +82,7 @@ impl Refusal {
     }
 }
 
-// `refused NUMBER LAYER PLACE: words`.
+// `refused NUMBER LAYER PLACE: words`, each by the method that tells it alone.
 impl fmt::Display for Refusal {
     ghost output = { λ x. Some (line x) };
 

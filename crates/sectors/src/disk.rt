@@ -96,6 +96,7 @@ impl SectorDisk {
         ensures { MatchResult result (λ place. (Ok tt ≡ outcome (range_fault block (size_of (device_of self.now)) len)) × (place.block ≡ block)) (λ fault. Err fault ≡ outcome (range_fault block (size_of (device_of self.now)) len)) }
     {
         check_range(block, self.size(), len)?;
+        // a cast and not `try_from`, which could not fail: the block is on the disk
         Ok(Place {
             block: block as u16,
         })

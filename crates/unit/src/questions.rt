@@ -75,7 +75,8 @@ impl<D: BlockDevice> PackUnit<D> {
     }
 
     // Finds a live file by its whole name or by its stem: its entry is put into the front of the buffer, and the number
-    // of the entry is replied.
+    // of the entry is replied. Show begins and ends alike: a function for both would be handed how the file is found as a
+    // closure, and be no shorter.
     pub fn find(
         &self,
         kind: NameKind,

@@ -40,7 +40,6 @@ impl<D: BlockDevice> PackUnit<D> {
     pub fn into_device(self) -> D
         ensures { result ≡ self.device }
     {
-        let PackUnit { device, .. } = self;
-        device
+        self.device
     }
 }
