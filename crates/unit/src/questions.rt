@@ -46,6 +46,15 @@ fn find_named<D: BlockDevice>(
     }
 }
 
+// Puts a file's entry into the front of a buffer, and gives its number.
+fn put_front(front: &mut [u8; ENTRY], file: &Found) -> u32
+    ensures number { result ≡ file.now.number }
+    ensures front { front.new ≡ file.now.entry.bytes }
+{
+    front.copy_from_slice(&file.entry.bytes);
+    file.number
+}
+
 impl<D: BlockDevice> PackUnit<D> {
     // The file that find is about, or why there is none.
     fn find_file(
@@ -75,8 +84,7 @@ impl<D: BlockDevice> PackUnit<D> {
     }
 
     // Finds a live file by its whole name or by its stem: its entry is put into the front of the buffer, and the number
-    // of the entry is replied. Show begins and ends alike: a function for both would be handed how the file is found as a
-    // closure, and be no shorter.
+    // of the entry is replied.
     pub fn find(
         &self,
         kind: NameKind,
@@ -92,8 +100,7 @@ impl<D: BlockDevice> PackUnit<D> {
             .first_chunk_mut::<ENTRY>()
             .ok_or(Refusal::OutOfRange)?;
         let file = self.find_file(kind, name, work)?;
-        front.copy_from_slice(&file.entry.bytes);
-        Ok(file.number)
+        Ok(put_front(front, &file))
     }
 
     // Shows a file, live or deleted, by the number of its entry, as find does.
@@ -106,7 +113,6 @@ impl<D: BlockDevice> PackUnit<D> {
             .first_chunk_mut::<ENTRY>()
             .ok_or(Refusal::OutOfRange)?;
         let file = self.show_file(entry, work)?;
-        front.copy_from_slice(&file.entry.bytes);
-        Ok(file.number)
+        Ok(put_front(front, &file))
     }
 }

@@ -21,6 +21,6 @@ returns-in_err-file-clause-turn g c =
 
 pub returns-clause-turn : goal.returns-clause-turn
 returns-clause-turn g c =
-    shown (find-asks c.args.self.now.state (g.D.BlockDevice.meaning c.args.self.now.device) (g.met.D.BlockDevice.wide c.args.self.now.device) (length c.args.work.now) c.args.buffer.now c.args.kind c.args.name.now)
+    rw c.put_front.ensures.number (shown (find-asks c.args.self.now.state (g.D.BlockDevice.meaning c.args.self.now.device) (g.met.D.BlockDevice.wide c.args.self.now.device) (length c.args.work.now) c.args.buffer.now c.args.kind c.args.name.now)
     c.in_ok-file.file _ (c.as_mut_array.ensures.variant.0 (sym c.in_ok-work.ensures.variant))
-    (c.first_chunk_mut.ensures.variant.0 (sym c.in_ok-front.ensures.variant)) c.copy_from_slice.ensures.after c.in_ok-file.ensures
+    (c.first_chunk_mut.ensures.variant.0 (sym c.in_ok-front.ensures.variant)) c.put_front.ensures.front c.in_ok-file.ensures)
