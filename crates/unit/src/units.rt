@@ -10,7 +10,7 @@ use model::State;
 // that a call leaves the device itself as it was, with what its meaning leaves out; a view that holds the device is these
 // fields again.
 // Calls take a work block as a slice, and test its length: a wrong one is a refusal, which an array would ask of callers.
-// So their contracts say that it keeps its length (WorkBlock), which a caller of a public function knows from nothing else.
+// Their contracts say that it keeps its length (WorkBlock), so that a caller reads there that nothing else of it is decided.
 #[derive(Drop)]
 pub struct PackUnit<D> {
     pub(crate) state: State,
