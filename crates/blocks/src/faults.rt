@@ -67,6 +67,13 @@ impl Fault {
         }
     }
 
+    // The refusal that the fault is to a caller of the unit, as `From` gives it to `?`.
+    pub fn refusal(self) -> Refusal
+        ensures { result ≡ refusal_of self }
+    {
+        self.into()
+    }
+
     // The fault as a layer passes it up.
     pub fn deeper(self) -> Fault
         ensures { result ≡ deeper_fault self }
