@@ -63,8 +63,10 @@ pub(crate) fn load<D: BlockDevice>(heap: Global, device: &D) -> Result<Directory
     if !volume_holds(device.size(), &volume) {
         return Err(Refusal::BrokenLayout { entry: 0 }.into());
     }
-    let mut blocks = Vec::new(heap);
+    let count = u32::from(volume.directory_blocks());
+    // memory for just these blocks: a `Vec` that grows by itself begins with four
+    let mut blocks = Vec::with_capacity(heap, count as usize)?;
     blocks.push(first)?;
-    load_more(device, u32::from(volume.directory_blocks()), &mut blocks)?;
+    load_more(device, count, &mut blocks)?;
     Ok(Directory { blocks })
 }
