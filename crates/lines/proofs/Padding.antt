@@ -1,13 +1,11 @@
 -- What the options of a format write: spaces up to a width, zeros before a number, hexadecimal. Assumes nothing.
-use Rattle.std.proofs.Common.{◌≡◌, ℕ, zero, suc, ◌-◌, ◌/◌, ◌%◌, ◌^◌, ◌<◌, ◌≤◌, Bool, true, false, cond, eqb, leb, List, [], ◌∷◌, ◌++◌, length, IfOk, OnOk, Some, Ok, Err, Result, replicate, codes, decimal, String, string_bytes, sym, refl, ap, subst, ◌∙◌, append-nil, arith, rules}
+use Rattle.std.proofs.Common.{◌≡◌, ℕ, zero, suc, ◌-◌, ◌/◌, ◌%◌, ◌^◌, ◌<◌, ◌≤◌, Bool, true, false, cond, eqb, leb, List, [], ◌∷◌, ◌++◌, length, IfOk, Ok, Err, Result, replicate, codes, decimal, String, string_bytes, sym, refl, ap, subst, ◌∙◌, append-nil, arith, rules}
 use Rattle.std.proofs.lemmas.Bool.{lt-ltb, leb-true, ne_eqb, and_parts}
 use Rattle.std.proofs.lemmas.Bool.Decides.{nat_tests}
-use Rattle.std.proofs.lemmas.Fmt.{hex_byte as hex_byte_written}
-use Rattle.std.specs.Fmt.{char_count, format_spec, padded, padded_integral, styled_decimal, styled_digits_output, styled_text, take_chars, digits, digits_output, AppendsText, ◌++?◌}
+use Rattle.std.specs.Fmt.{char_count, format_spec, padded, padded_integral, styled_decimal, styled_text, take_chars}
 use Rattle.std.specs.List.{All, repeat}
 use Rattle.std.specs.Str.{IsAscii}
 use Rattle.std.proofs.lemmas.List.Elements.{All-drop, All-get_or}
-use Rattle.std.proofs.lemmas.Result.{on_ok_weaker}
 use Rattle.std.proofs.lemmas.Str.{IsAscii-append}
 use Rattle.std.proofs.lemmas.Str.Ascii.{IsAscii-nil, IsAscii-cons, IsAscii-from_all}
 use Rattle.names.specs.Names.{printable}
@@ -29,13 +27,6 @@ none-left n = omega arith
 pub number-right : (w n : ℕ) → padded_integral (format_spec 32 3 0 w (2 ^ 64 - 1)) false [] (decimal n) ≡ right w (decimal n)
 unfolding padded_integral char_count lib.Utf8.encode
 number-right w n = simp (none-more, none-left, append-nil) (ap (λ cs. cs ++ decimal n) (repeat-one (w - length (decimal n)) 32))
-
--- a byte in hexadecimal
-pub hexed : {E : Type 0} (r : Result (Unit {0}) E) (out after : List ℕ) (b : ℕ) (d s : _) → b < 256 → digits_output d ≡ Some (digits 16 true b)
-    → s ≡ format_spec 32 0 4 2 (2 ^ 64 - 1) → OnOk r (AppendsText out after (Some (92 ∷ 120 ∷ []) ++? styled_digits_output d s)) → OnOk r (after ≡ out ++ hex_byte b)
-hexed r out after b d s small p q h =
-    let k : OnOk r (after ≡ out ++ (92 ∷ 120 ∷ padded_integral (format_spec 32 0 4 2 (2 ^ 64 - 1)) false [] (digits 16 true b))) = rw (q, p) at h in
-    on_ok_weaker r (λ e. e ∙ ap (λ ds. out ++ (92 ∷ 120 ∷ ds)) (hex_byte_written true b small)) k
 
 -- each byte below 128 is a character
 chars-ascii : (text : List ℕ) → IsAscii text → char_count text ≡ length text
@@ -93,7 +84,7 @@ either-ascii false xs ys p q = q
 small : (text : List ℕ) → All (λ b. b < 128) text → IsAscii text
 small text h = IsAscii-from_all text h
 
-hex-small : (n : ℕ) → n < 16 → hex_digit n < 128
+pub hex-small : (n : ℕ) → n < 16 → hex_digit n < 128
 hex-small n h = grind (arith, nat_tests)
 
 plain-small : (b : ℕ) (t : Bool) → printable b ≡ t → b < 256 → IsAscii (cond t (b ∷ []) (hex_byte b))

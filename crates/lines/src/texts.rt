@@ -1,8 +1,30 @@
 // Pieces of text that the commands print.
-ghost use Rattle.std.specs.Prelude.{◌≡◌, ◌++◌, IfOk, string_bytes, OnOk};
-ghost use Rattle.lines.specs.Texts.{counted as counted_of, escaped as escaped_of, escaped_byte};
+ghost use Rattle.std.specs.Prelude.{◌≡◌, ◌<◌, ◌++◌, IfOk, string_bytes, OnOk};
+ghost use Rattle.lines.specs.Texts.{counted as counted_of, escaped as escaped_of, escaped_byte, hex_byte, hex_digit};
 
 use std::alloc::{AllocError, Global};
+
+// The digits of hexadecimal numbers.
+const DIGITS: [char; 16] = [
+    '0', '1', '2', '3', '4', '5', '6', '7', '8', '9', 'A', 'B', 'C', 'D', 'E', 'F',
+];
+
+// A hexadecimal digit, in capitals.
+fn hex_digit(n: u8) -> char
+    requires { n < 16 }
+    ensures { result ≡ hex_digit n }
+{
+    DIGITS[usize::from(n)]
+}
+
+// Adds `\x` and the two digits of a byte. Not `write!` with `{byte:02X}`, which takes twice as long.
+fn push_hex(out: &mut String, byte: u8) -> Result<(), AllocError>
+    ensures { OnOk result (string_bytes out.new ≡ string_bytes out.old ++ hex_byte byte) }
+{
+    out.push_str("\\x")?;
+    out.push(hex_digit(byte / 16))?;
+    out.push(hex_digit(byte % 16))
+}
 
 // Adds a byte of a name, escaped where it is not printable.
 fn push_byte(out: &mut String, byte: u8) -> Result<(), AllocError>
@@ -11,7 +33,7 @@ fn push_byte(out: &mut String, byte: u8) -> Result<(), AllocError>
     match byte {
         b'\\' => out.push_str("\\\\"),
         0x20..=0x7e => out.push(char::from(byte)),
-        _ => write!(out, "\\x{byte:02X}"),
+        _ => push_hex(out, byte),
     }
 }
 
