@@ -1,11 +1,32 @@
 // The line that is printed of a reply.
-ghost use Rattle.std.specs.Prelude.{◌≡◌, IfOk, string_bytes};
-ghost use Rattle.console.specs.Replies.{done_text, hex_text, refused_text, reply_text};
+ghost use Rattle.std.specs.Prelude.{◌≡◌, ◌<◌, ◌++◌, IfOk, string_bytes, OnOk};
+ghost use Rattle.console.specs.Replies.{done_text, hex_digit, hex_pair, hex_text, refused_text, reply_text};
 ghost use Rattle.requests.specs.Values.{told};
 
 use refusal::Refusal;
 use requests::Reply;
 use std::alloc::{AllocError, Global};
+
+// The digits of hexadecimal numbers.
+const DIGITS: [char; 16] = [
+    '0', '1', '2', '3', '4', '5', '6', '7', '8', '9', 'A', 'B', 'C', 'D', 'E', 'F',
+];
+
+// A hexadecimal digit, in capitals.
+fn hex_digit(n: u8) -> char
+    requires { n < 16 }
+    ensures { result ≡ hex_digit n }
+{
+    DIGITS[usize::from(n)]
+}
+
+// Adds the two digits of a byte. Not `write!` with `{byte:02X}`, which takes several times as long.
+fn push_hex(out: &mut String, byte: u8) -> Result<(), AllocError>
+    ensures { OnOk result (string_bytes out.new ≡ string_bytes out.old ++ hex_pair byte) }
+{
+    out.push(hex_digit(byte / 16))?;
+    out.push(hex_digit(byte % 16))
+}
 
 // Bytes in hexadecimal, two digits a byte.
 fn hex_text(heap: Global, bytes: &[u8]) -> Result<String, AllocError>
@@ -13,7 +34,7 @@ fn hex_text(heap: Global, bytes: &[u8]) -> Result<String, AllocError>
 {
     let mut out = String::new(heap);
     for byte in bytes {
-        write!(out, "{byte:02X}")?;
+        push_hex(&mut out, *byte)?;
     }
     Ok(out)
 }
