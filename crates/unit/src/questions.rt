@@ -24,7 +24,8 @@ fn found_by<R: FileRule, D: BlockDevice>(
     name: &[u8],
     work: &mut [u8],
 ) -> Result<Option<Found>, Refusal>
-    ensures { result ≡ (if R.Rule.rule name.now then lookup_reply (λ bytes. R.FileRule.fitting name.now (name_of bytes)) (D.BlockDevice.meaning device.now) pack.directory (length work.old) else Err BadName) }
+    ensures reply { result ≡ (if R.Rule.rule name.now then lookup_reply (λ bytes. R.FileRule.fitting name.now (name_of bytes)) (D.BlockDevice.meaning device.now) pack.directory (length work.old) else Err BadName) }
+    ensures work { WorkBlock work.old work.new }
 {
     let key = Name::<R>::new(name)?;
     lookup(device, pack.directory, &key, work)
@@ -38,7 +39,8 @@ fn find_named<D: BlockDevice>(
     name: &[u8],
     work: &mut [u8],
 ) -> Result<Option<Found>, Refusal>
-    ensures { result ≡ named (D.BlockDevice.meaning device.now) kind name.now (length work.old) pack }
+    ensures reply { result ≡ named (D.BlockDevice.meaning device.now) kind name.now (length work.old) pack }
+    ensures work { WorkBlock work.old work.new }
 {
     match kind {
         NameKind::Whole => found_by::<WholeRule, D>(device, pack, name, work),

@@ -4,8 +4,8 @@ use Rattle.entry.specs.Fields.{name_of}
 use Rattle.directory.specs.Lookups.{lookup_reply}
 use Rattle.unit.proofs.questions.found_by.Goals as goal
 
-pub returns : goal.returns
-returns g c =
+pub returns-clause-reply : goal.returns-clause-reply
+returns-clause-reply g c =
     let d = g.D.BlockDevice.meaning c.args.device.now in
     let name = c.args.name.now in
     let len = length c.args.work.now in
