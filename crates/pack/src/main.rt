@@ -7,23 +7,22 @@ use arguments::{Command, Medium, USAGE, complaint, read_arguments};
 use blocks::{BlockDevice, Image};
 use listing::{Failure, catalogue, find};
 use sectors::SectorDisk;
-use std::alloc::{AllocError, Global};
+use std::alloc::Global;
 use std::process::ExitCode;
 use std::{env, fs};
 
-// What was made; or, where nothing was, the line that says why on standard error, and an error that ends the program
-// without success. A match and not `or_else`, whose closure would have to say again when `line` may be called.
-fn made<T, E: Drop, L: FnOnce(E) -> Result<String, AllocError>>(
-    rt: &HostRuntime,
+// What was made; or, where nothing was, what `say` says of why on standard error, and an error that ends the program
+// without success. A match and not `or_else`, whose closure would have to say again when `say` may be called.
+fn made<T, E: Drop, S: FnOnce(E) -> anyhow::Result<()>>(
     tried: Result<T, E>,
-    line: L,
+    say: S,
 ) -> anyhow::Result<T>
-    requires { L.IsAlwaysCallable line }
+    requires { S.IsAlwaysCallable say }
 {
     match tried {
         Ok(value) => Ok(value),
         Err(e) => {
-            rt.eprintln(line(e)?)?;
+            say(e)?;
             Err(anyhow!("nothing was made"))
         }
     }
@@ -61,13 +60,16 @@ fn text_in(
 fn run_on(rt: &HostRuntime, medium: Medium, path: &str, task: Task<'_>) -> anyhow::Result<()> {
     let heap = rt.alloc();
     let read = fs::read(rt, path);
+    // Printed as it is put together: no memory is asked for this line.
     let bytes = made(
-        rt,
         read,
-        |e| format!(in heap; "pack: {path}: the file cannot be read: {e}"),
+        |e| Ok(eprintln!(rt; "pack: {path}: the file cannot be read: {e}")?),
     )?;
     let text = text_in(heap, medium, bytes, task);
-    let text = made(rt, text, |failure| complaint(heap, path, failure))?;
+    let text = made(
+        text,
+        |failure| Ok(rt.eprintln(complaint(heap, path, failure)?)?),
+    )?;
     Ok(rt.print(text)?)
 }
 
@@ -83,11 +85,7 @@ fn run(rt: &HostRuntime, command: Command<'_>) -> anyhow::Result<()> {
 fn perform(rt: &HostRuntime) -> anyhow::Result<()> {
     let args: Vec<String> = env::args(rt)?.skip(1).collect(rt.alloc())?;
     let command = read_arguments(args.as_slice());
-    let command = made(
-        rt,
-        command,
-        |misuse| format!(in rt.alloc(); "pack: {misuse}"),
-    )?;
+    let command = made(command, |misuse| Ok(eprintln!(rt; "pack: {misuse}")?))?;
     run(rt, command)
 }
 
