@@ -64,8 +64,8 @@ pub(crate) fn load<D: BlockDevice>(heap: Global, device: &D) -> Result<Directory
         return Err(Refusal::BrokenLayout { entry: 0 }.into());
     }
     let count = u32::from(volume.directory_blocks());
-    // memory for just these blocks: a `Vec` that grows by itself begins with four
-    let mut blocks = Vec::with_capacity(heap, count as usize)?;
+    // room for its blocks, four at most: a `Vec` that is left to itself begins with four, also for one block
+    let mut blocks = Vec::with_capacity(heap, count.min(4) as usize)?;
     blocks.push(first)?;
     load_more(device, count, &mut blocks)?;
     Ok(Directory { blocks })
