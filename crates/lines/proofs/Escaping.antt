@@ -1,7 +1,12 @@
 -- A name escaped byte by byte. Assumes nothing.
-use Rattle.std.proofs.Common.{◌≡◌, ℕ, ◌+◌, ◌/◌, ◌%◌, ◌<◌, cond, List, [], ◌∷◌, ◌++◌, length, get_or, take, is_ok, IfOk, Ok, Err, Result, sym, ap, ap₂, ◌∙◌, append_assoc}
+use Rattle.std.proofs.Common.{◌≡◌, ℕ, ◌+◌, ◌/◌, ◌%◌, ◌<◌, cond, List, [], ◌∷◌, ◌++◌, length, get_or, take, is_ok, IfOk, Ok, Err, Result, sym, ap, ap₂, ◌∙◌, append_assoc, arith}
+use Rattle.std.proofs.lemmas.Bool.Decides.{nat_tests}
 use Rattle.std.proofs.lemmas.List.{take_more, flat_map_more}
 use Rattle.lines.specs.Texts.{escaped, escaped_byte, hex_byte, hex_digit}
+
+-- a digit is ASCII
+pub hex-ascii : (n : ℕ) → n < 16 → hex_digit n < 128
+hex-ascii n h = grind (arith, nat_tests)
 
 -- the three pieces of a byte in hexadecimal
 pub hexed : {E : Type 0} (r : Result (Unit {0}) E) (out was after high low : List ℕ) (byte : ℕ) → was ≡ (out ++ (92 ∷ 120 ∷ [])) ++ high

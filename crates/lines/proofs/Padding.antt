@@ -1,7 +1,6 @@
--- What the options of a format write: spaces up to a width, zeros before a number, hexadecimal. Assumes nothing.
+-- What the options of a format write, spaces up to a width, and that the texts that they pad are ASCII. Assumes nothing.
 use Rattle.std.proofs.Common.{◌≡◌, ℕ, zero, suc, ◌-◌, ◌/◌, ◌%◌, ◌^◌, ◌<◌, ◌≤◌, Bool, true, false, cond, eqb, leb, List, [], ◌∷◌, ◌++◌, length, IfOk, Ok, Err, Result, replicate, codes, decimal, String, string_bytes, sym, refl, ap, subst, ◌∙◌, append-nil, arith, rules}
 use Rattle.std.proofs.lemmas.Bool.{lt-ltb, leb-true, ne_eqb, and_parts}
-use Rattle.std.proofs.lemmas.Bool.Decides.{nat_tests}
 use Rattle.std.specs.Fmt.{char_count, format_spec, padded, padded_integral, styled_decimal, styled_text, take_chars}
 use Rattle.std.specs.List.{All, repeat}
 use Rattle.std.specs.Str.{IsAscii}
@@ -12,6 +11,7 @@ use Rattle.names.specs.Names.{printable}
 use Rattle.entry.specs.Fields.{bit}
 use Rattle.lines.specs.Rows.{state_text}
 use Rattle.lines.specs.Texts.{escaped, escaped_byte, hex_byte, hex_digit, left, right}
+use Rattle.lines.proofs.Escaping.{hex-ascii}
 
 repeat-one : (n c : ℕ) → repeat n (c ∷ []) ≡ replicate n c
 repeat-one zero c = refl
@@ -84,14 +84,11 @@ either-ascii false xs ys p q = q
 small : (text : List ℕ) → All (λ b. b < 128) text → IsAscii text
 small text h = IsAscii-from_all text h
 
-pub hex-small : (n : ℕ) → n < 16 → hex_digit n < 128
-hex-small n h = grind (arith, nat_tests)
-
 plain-small : (b : ℕ) (t : Bool) → printable b ≡ t → b < 256 → IsAscii (cond t (b ∷ []) (hex_byte b))
 plain-small b true e h = IsAscii-cons b [] (omega (arith, leb-true b 126 (and_parts (leb 32 b) (leb b 126) e).1)) IsAscii-nil
 plain-small b false e h =
-    let low = IsAscii-cons (hex_digit (b % 16)) [] (hex-small (b % 16) (omega arith)) IsAscii-nil in
-    let high = IsAscii-cons (hex_digit (b / 16)) (hex_digit (b % 16) ∷ []) (hex-small (b / 16) (omega arith)) low in
+    let low = IsAscii-cons (hex_digit (b % 16)) [] (hex-ascii (b % 16) (omega arith)) IsAscii-nil in
+    let high = IsAscii-cons (hex_digit (b / 16)) (hex_digit (b % 16) ∷ []) (hex-ascii (b / 16) (omega arith)) low in
     IsAscii-cons 92 (120 ∷ hex_digit (b / 16) ∷ hex_digit (b % 16) ∷ []) (omega arith) (IsAscii-cons 120 (hex_digit (b / 16) ∷ hex_digit (b % 16) ∷ []) (omega arith) high)
 
 byte-ascii : (b : ℕ) → b < 256 → IsAscii (escaped_byte b)
