@@ -64,7 +64,8 @@ pub(crate) fn load<D: BlockDevice>(heap: Global, device: &D) -> Result<Directory
         return Err(Refusal::BrokenLayout { entry: 0 }.into());
     }
     let count = u32::from(volume.directory_blocks());
-    // room for its blocks, four at most: a `Vec` that is left to itself begins with four, also for one block
+    // Room for its blocks, four at most, which a `Vec` left to itself begins with: a directory of one block needs no
+    // more than that one, and a longer one grows as it is read, since a bad block may end it.
     let mut blocks = Vec::with_capacity(heap, count.min(4) as usize)?;
     blocks.push(first)?;
     load_more(device, count, &mut blocks)?;

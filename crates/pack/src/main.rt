@@ -60,7 +60,7 @@ fn text_in(
 fn run_on(rt: &HostRuntime, medium: Medium, path: &str, task: Task<'_>) -> anyhow::Result<()> {
     let heap = rt.alloc();
     let read = fs::read(rt, path);
-    // Printed as it is put together: no memory is asked for this line.
+    // Printed as it is put together: no memory is asked for this line, since the file may be unreadable for want of it.
     let bytes = made(
         read,
         |e| Ok(eprintln!(rt; "pack: {path}: the file cannot be read: {e}")?),
